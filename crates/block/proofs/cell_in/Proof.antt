@@ -1,0 +1,16 @@
+use borrow.Author.Tests.{eq-eqb, ne-eqb}
+use Rattle.block.proofs.cell_in.Statement.{statement}
+use Rattle.block.proofs.cell_in.Tie as tie
+use Rattle.block.proofs.cell_in.Reads as reads
+use Rattle.block.proofs.cell_in.Lts as lts
+
+-- src/lib.rt:99:1
+returns : tie.Need-returns
+returns c = rw (eq-eqb _ _ (c .if1 .taken))
+
+-- src/lib.rt:99:1
+returns-2 : tie.Need-returns-2
+returns-2 c = rw (ne-eqb _ _ (c .if1 .left))
+
+pub cell-in-spec : {M : Type 1} → statement M
+cell-in-spec = tie.close (tie.spec returns returns-2)

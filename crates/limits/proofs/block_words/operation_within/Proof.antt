@@ -1,0 +1,14 @@
+-- `limits::block_words::operation_within` meets its contract: at each `return` its test says whether there is such
+-- a cell. Assumes nothing.
+use borrow.Author.Tests.{le-ltb, lt-ltb}
+use Rattle.limits.proofs.block_words.operation_within.Statement.{statement}
+use Rattle.limits.proofs.block_words.operation_within.Tie as tie
+
+returns : tie.Need-returns
+returns c = rw (le-ltb _ _ (c .if1 .taken))
+
+returns-2 : tie.Need-returns-2
+returns-2 c = rw (lt-ltb _ _ (c .before .if1 .left))
+
+pub operation-within-spec : {M : Type 1} → statement M
+operation-within-spec = tie.close (tie.spec returns returns-2)

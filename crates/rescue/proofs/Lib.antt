@@ -1,0 +1,2 @@
+-- `Lowest` has the laws of the search for the lowest full cell.
+pub mod Lowest

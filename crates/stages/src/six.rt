@@ -1,0 +1,151 @@
+// The six stages in their order, each a function of the words that it reads.
+use crate::ClientRecord;
+use crate::Stage;
+use crate::Stepped;
+use crate::written;
+use block::Entry;
+use block::Kind;
+use block::Operation;
+use block::store::Store;
+use header::Fields;
+use header::pack;
+use header::unpack;
+use numbers::Client;
+use numbers::Era;
+use numbers::answers::Answer;
+ghost use mathlib.Core.Path.{_≡_};
+ghost use Prim.Native.Nat.{_<_};
+ghost use Rattle.stages.specs.Stages.{went, loadStage, noteStage, logStage, swapStage, cellStage, eraStage, countAfter};
+
+// The outcome of a step.
+fn went(answer: Answer, stage: Stage, store: Store) -> Stepped
+    ensures { λ r. ⌜ r ≡ went answer stage store ⌝ }
+{
+    Stepped {
+        answer,
+        next: ClientRecord { stage },
+        store,
+    }
+}
+
+// A step with nothing under way.
+pub(crate) fn nothing_under_way() -> Stepped
+    ensures { λ r. ⌜ r ≡ went Answer.WrongMoment Stage.Idle Store.Nothing ⌝ }
+{
+    went(Answer::WrongMoment, Stage::Idle, Store::Nothing)
+}
+
+// 1. Load: keeps the slot's header; a lease asks for count 0, an attach for 1 or more.
+pub(crate) fn load(op: Operation, header: u64) -> Stepped
+    ensures { λ r. ⌜ r ≡ loadStage op header ⌝ }
+{
+    let count = unpack(header).count;
+    let kind = op.kind;
+    match kind {
+        Kind::Lease => {
+            if count == 0 {
+                went(Answer::Accepted, Stage::Note(op, header), Store::Nothing)
+            } else {
+                went(Answer::SlotHeld, Stage::Idle, Store::Nothing)
+            }
+        }
+        Kind::Attach => {
+            if count == 0 {
+                went(Answer::SlotFree, Stage::Idle, Store::Nothing)
+            } else {
+                went(Answer::Accepted, Stage::Note(op, header), Store::Nothing)
+            }
+        }
+        Kind::Release => went(Answer::Accepted, Stage::Note(op, header), Store::Nothing),
+    }
+}
+
+// 2. Note: raises what the own row has seen of the header's client to the header's era.
+pub(crate) fn note(me: Client, op: Operation, kept: u64, seen: Era) -> Stepped
+    ensures { λ r. ⌜ r ≡ noteStage me op kept seen ⌝ }
+{
+    let fields = unpack(kept);
+    let era = fields.era;
+    let client = fields.client;
+    if seen.0 < era.0 {
+        went(
+            Answer::Accepted,
+            Stage::Log(op, kept),
+            Store::Era(me, client, era),
+        )
+    } else {
+        went(Answer::Accepted, Stage::Log(op, kept), Store::Nothing)
+    }
+}
+
+// 3. Log: writes the operation, the own era and the count read.
+pub(crate) fn log_entry(me: Client, op: Operation, kept: u64, own: Era) -> Stepped
+    ensures { λ r. ⌜ r ≡ logStage me op kept own ⌝ }
+{
+    let entry = Entry {
+        operation: op,
+        era: own,
+        count: unpack(kept).count,
+    };
+    went(
+        Answer::Accepted,
+        Stage::Swap(op, kept),
+        Store::Log(me, entry),
+    )
+}
+
+// 4. Swap: writes the slot's header where it still is the whole kept word, else goes back to the load.
+pub(crate) fn swap(me: Client, op: Operation, kept: u64, own: Era, header: u64) -> Stepped
+    ensures { λ r. ⌜ r ≡ swapStage me op kept own header ⌝ }
+{
+    if header == kept {
+        let kind = op.kind;
+        let slot = op.slot;
+        let fields = Fields {
+            era: own,
+            count: count_after(kind, unpack(kept).count),
+            client: me,
+        };
+        went(
+            Answer::Accepted,
+            Stage::Cell(op, kept),
+            Store::Header(slot, pack(fields)),
+        )
+    } else {
+        went(Answer::SwapLost, Stage::Load(op), Store::Nothing)
+    }
+}
+
+// The count that a won swap writes: 1 for a lease, one more for an attach, one less for a release.
+fn count_after(kind: Kind, count: u32) -> u32
+    requires { ⌜ count < 65536 ⌝ }
+    ensures { λ r. ⌜ r ≡ countAfter kind count ⌝ }
+{
+    match kind {
+        Kind::Lease => 1,
+        Kind::Attach => count + 1,
+        Kind::Release => { if count == 0 { 0 } else { count - 1 } }
+    }
+}
+
+// 5. Cell: writes the slot, or empties the cell for a release.
+pub(crate) fn write_cell(me: Client, op: Operation, kept: u64) -> Stepped
+    ensures { λ r. ⌜ r ≡ cellStage me op kept ⌝ }
+{
+    went(
+        Answer::Accepted,
+        Stage::Era(op, kept),
+        Store::Cell(me, op.cell, written(op)),
+    )
+}
+
+// 6. Era: raises the own era; the operation is finished.
+pub(crate) fn raise_era(me: Client, own: Era) -> Stepped
+    ensures { λ r. ⌜ r ≡ eraStage me own ⌝ }
+{
+    went(
+        Answer::Finished,
+        Stage::Idle,
+        Store::Era(me, me, own.raise()),
+    )
+}
