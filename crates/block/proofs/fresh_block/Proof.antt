@@ -1,11 +1,10 @@
+-- `block::fresh_block` meets its contract: what it returns computes to the definition.
+-- Assumes nothing.
 use mathlib.Core.Path.{refl}
 use Rattle.block.specs.Block.{freshBlock}
 use Rattle.block.proofs.fresh_block.Statement.{statement}
 use Rattle.block.proofs.fresh_block.Tie as tie
-use Rattle.block.proofs.fresh_block.Reads as reads
-use Rattle.block.proofs.fresh_block.Lts as lts
 
--- src/lib.rt:73:1
 returns : tie.Need-returns
 unfolding freshBlock
 returns c = refl

@@ -1,29 +1,24 @@
+-- `block::header_at` meets its contract: within the words it reads the word, and past them what the definition has there.
+-- Assumes nothing.
 use denote.Ref.{now}
 use lib.ListN.{List·getD-eq-default}
 use mathlib.Core.Path.{sym}
 use borrow.Author.Needs.{needs}
 use Rattle.block.proofs.header_at.Statement.{statement}
 use Rattle.block.proofs.header_at.Tie as tie
-use Rattle.block.proofs.header_at.Reads as reads
-use Rattle.block.proofs.header_at.Lts as lts
 
--- src/lib.rt:90:14
 cast-at : tie.Need-cast-at
 cast-at c = search needs
 
--- src/lib.rt:92:9
 mul-result : tie.Need-mul-result
 mul-result c = search needs
 
--- src/lib.rt:92:9
 shared-slice-read-result : tie.Need-shared-slice-read-result
 shared-slice-read-result c = search needs
 
--- src/lib.rt:87:1
 returns : tie.Need-returns
 returns c = search needs
 
--- src/lib.rt:87:1
 returns-2 : tie.Need-returns-2
 returns-2 c = sym (List·getD-eq-default (now (c .before .before .args .headers)) 0 (c .if1 .left))
 

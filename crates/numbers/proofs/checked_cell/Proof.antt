@@ -1,19 +1,16 @@
+-- `numbers::checked_cell` meets its contract: at each `return` the test that led there is the test of the definition.
+-- Assumes nothing.
 use borrow.Author.Tests.{lt-ltb, le-ltb}
 use borrow.Author.Needs.{needs}
 use Rattle.numbers.proofs.checked_cell.Statement.{statement}
 use Rattle.numbers.proofs.checked_cell.Tie as tie
-use Rattle.numbers.proofs.checked_cell.Reads as reads
-use Rattle.numbers.proofs.checked_cell.Lts as lts
 
--- src/lib.rt:66:26
 cast-t4 : tie.Need-cast-t4
 cast-t4 c = search needs
 
--- src/lib.rt:62:1
 returns : tie.Need-returns
 returns c = rw (lt-ltb _ _ (c .if1 .taken))
 
--- src/lib.rt:62:1
 returns-2 : tie.Need-returns-2
 returns-2 c = rw (le-ltb _ _ (c .if1 .left))
 

@@ -1,32 +1,25 @@
+-- `rescue::searched` meets its contract: what it returns computes to the definition.
+-- Assumes nothing.
 use mathlib.Core.Path.{sym, _∙_}
 use borrow.Author.Needs.{needs}
 use Rattle.rescue.proofs.searched.Statement.{statement}
 use Rattle.rescue.proofs.searched.Tie as tie
-use Rattle.rescue.proofs.searched.Reads as reads
-use Rattle.rescue.proofs.searched.Lts as lts
-use Rattle.rescue.proofs.went.Reads as went-reads
 
--- src/lib.rt:105:13
 enum-told : tie.Need-enum-told
 enum-told c = search needs
 
--- src/lib.rt:104:27
 went-requires : tie.Need-went-requires
 went-requires c κs = search needs
 
--- src/lib.rt:109:19
 enum-known-found : tie.Need-enum-known-found
 enum-known-found c = search needs
 
--- src/lib.rt:118:13
 went-requires-2 : tie.Need-went-requires-2
 went-requires-2 c κs = search needs
 
--- src/lib.rt:100:1
 returns : tie.Need-returns
 returns c = c .went .ensures ∙ rw (c .before .enum-told .given .1)
 
--- src/lib.rt:100:1
 returns-2 : tie.Need-returns-2
 returns-2 c = c .went2 .ensures ∙ rw (c .before .before .found .given .1)
 

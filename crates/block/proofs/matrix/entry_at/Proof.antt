@@ -1,27 +1,22 @@
+-- `block::matrix::entry_at` meets its contract: within the words it reads the word, and past them what the definition has there.
+-- Assumes nothing.
 use Rattle.block.proofs.Lists.{read-past}
 use borrow.Author.Needs.{needs}
 use Rattle.block.proofs.matrix.entry_at.Statement.{statement}
 use Rattle.block.proofs.matrix.entry_at.Tie as tie
-use Rattle.block.proofs.matrix.entry_at.Reads as reads
-use Rattle.block.proofs.matrix.entry_at.Lts as lts
 
--- src/matrix.rt:42:14
 cast-at : tie.Need-cast-at
 cast-at c = search needs
 
--- src/matrix.rt:44:9
 mul-result : tie.Need-mul-result
 mul-result c = search needs
 
--- src/matrix.rt:44:9
 array-read-result : tie.Need-array-read-result
 array-read-result c = search needs
 
--- src/matrix.rt:39:1
 returns : tie.Need-returns
 returns c = search needs
 
--- src/matrix.rt:39:1
 returns-2 : tie.Need-returns-2
 returns-2 c = let a = c .before .before .args in read-past (a .t1) (a .of .0) 8 0 (search needs) (c .if1 .left)
 

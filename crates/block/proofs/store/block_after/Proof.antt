@@ -1,74 +1,54 @@
+-- `block::store::block_after` meets its contract: each arm is the definition at that constructor.
+-- Assumes nothing.
 use borrow.Author.Needs.{needs}
 use Rattle.block.proofs.store.block_after.Statement.{statement}
 use Rattle.block.proofs.store.block_after.Tie as tie
-use Rattle.block.proofs.store.block_after.Reads as reads
-use Rattle.block.proofs.store.block_after.Lts as lts
-use Rattle.block.proofs.store.with_cell.Reads as with-cell-reads
-use Rattle.block.proofs.store.with_header.Reads as with-header-reads
-use Rattle.block.proofs.store.with_log.Reads as with-log-reads
-use Rattle.block.proofs.store.with_standing.Reads as with-standing-reads
 
--- src/store.rt:26:27
 enum-told : tie.Need-enum-told
 enum-told c = search needs
 
--- src/store.rt:27:23
 enum-known-store : tie.Need-enum-known-store
 enum-known-store c = search needs
 
--- src/store.rt:27:38
 with-header-requires : tie.Need-with-header-requires
 with-header-requires c κs = search needs
 
--- src/store.rt:28:21
 enum-known-store-2 : tie.Need-enum-known-store-2
 enum-known-store-2 c = search needs
 
--- src/store.rt:28:44
 with-cell-requires : tie.Need-with-cell-requires
 with-cell-requires c κs = search needs
 
--- src/store.rt:29:20
 enum-known-store-3 : tie.Need-enum-known-store-3
 enum-known-store-3 c = search needs
 
--- src/store.rt:29:38
 with-log-requires : tie.Need-with-log-requires
 with-log-requires c κs = search needs
 
--- src/store.rt:30:32
 enum-told-2 : tie.Need-enum-told-2
 enum-told-2 c = search needs
 
--- src/store.rt:31:25
 enum-known-store-4 : tie.Need-enum-known-store-4
 enum-known-store-4 c = search needs
 
--- src/store.rt:31:46
 with-standing-requires : tie.Need-with-standing-requires
 with-standing-requires c κs = search needs
 
--- src/store.rt:22:1
 returns : tie.Need-returns
 returns c = search needs
 
--- src/store.rt:22:1
 returns-2 : tie.Need-returns-2
 returns-2 c = rw (c .before .before .store .given .1) (c .with-header .ensures)
 
--- src/store.rt:22:1
 returns-3 : tie.Need-returns-3
 returns-3 c = rw (c .before .before .store2 .given .1) (c .with-cell .ensures)
 
--- src/store.rt:22:1
 returns-4 : tie.Need-returns-4
 returns-4 c = rw (c .before .before .store3 .given .1) (c .with-log .ensures)
 
--- src/store.rt:22:1
 returns-5 : tie.Need-returns-5
 returns-5 c = search needs
 
--- src/store.rt:22:1
 returns-6 : tie.Need-returns-6
 returns-6 c = rw (c .before .before .store4 .given .1) (c .with-standing .ensures)
 

@@ -1,59 +1,45 @@
+-- `block::store::eras_after` meets its contract: each arm is the definition at that constructor.
+-- Assumes nothing.
 use borrow.Author.Needs.{needs}
 use Rattle.block.proofs.store.eras_after.Statement.{statement}
 use Rattle.block.proofs.store.eras_after.Tie as tie
-use Rattle.block.proofs.store.eras_after.Reads as reads
-use Rattle.block.proofs.store.eras_after.Lts as lts
-use Rattle.block.proofs.store.with_era.Reads as with-era-reads
 
--- src/store.rt:40:27
 enum-told : tie.Need-enum-told
 enum-told c = search needs
 
--- src/store.rt:41:32
 enum-told-2 : tie.Need-enum-told-2
 enum-told-2 c = search needs
 
--- src/store.rt:42:33
 enum-told-3 : tie.Need-enum-told-3
 enum-told-3 c = search needs
 
--- src/store.rt:43:29
 enum-told-4 : tie.Need-enum-told-4
 enum-told-4 c = search needs
 
--- src/store.rt:44:20
 enum-known-store : tie.Need-enum-known-store
 enum-known-store c = search needs
 
--- src/store.rt:44:36
 with-era-requires : tie.Need-with-era-requires
 with-era-requires c κs = search needs
 
--- src/store.rt:45:34
 enum-told-5 : tie.Need-enum-told-5
 enum-told-5 c = search needs
 
--- src/store.rt:36:1
 returns : tie.Need-returns
 returns c = search needs
 
--- src/store.rt:36:1
 returns-2 : tie.Need-returns-2
 returns-2 c = search needs
 
--- src/store.rt:36:1
 returns-3 : tie.Need-returns-3
 returns-3 c = search needs
 
--- src/store.rt:36:1
 returns-4 : tie.Need-returns-4
 returns-4 c = search needs
 
--- src/store.rt:36:1
 returns-5 : tie.Need-returns-5
 returns-5 c = rw (c .before .before .store .given .1) (c .with-era .ensures)
 
--- src/store.rt:36:1
 returns-6 : tie.Need-returns-6
 returns-6 c = search needs
 

@@ -1,42 +1,33 @@
+-- `block::store::with_era` meets its contract: within the words it writes the word, and past them nothing.
+-- Assumes nothing.
 use Rattle.block.proofs.Lists.{write-past}
 use lib.ListN.{getD, set}
 use mathlib.Core.List.{[]}
 use borrow.Author.Needs.{needs}
 use Rattle.block.proofs.store.with_era.Statement.{statement}
 use Rattle.block.proofs.store.with_era.Tie as tie
-use Rattle.block.proofs.store.with_era.Reads as reads
-use Rattle.block.proofs.store.with_era.Lts as lts
-use Rattle.block.proofs.store.with_entry.Reads as with-entry-reads
 
--- src/store.rt:121:14
 cast-at : tie.Need-cast-at
 cast-at c = search needs
 
--- src/store.rt:124:30
 mul-with-entry : tie.Need-mul-with-entry
 mul-with-entry c = search needs
 
--- src/store.rt:124:30
 array-copy-out-with-entry : tie.Need-array-copy-out-with-entry
 array-copy-out-with-entry c = search needs
 
--- src/store.rt:124:13
 with-entry-requires : tie.Need-with-entry-requires
 with-entry-requires c κs = search needs
 
--- src/store.rt:125:9
 mul-next : tie.Need-mul-next
 mul-next c = search needs
 
--- src/store.rt:125:9
 array-set-from-next : tie.Need-array-set-from-next
 array-set-from-next c = search needs
 
--- src/store.rt:126:9
 returns : tie.Need-returns
 returns c = rw (c .with-entry .ensures)
 
--- src/store.rt:118:1
 returns-2 : tie.Need-returns-2
 returns-2 c = let a = c .before .before .args in write-past (a .eras) (a .by .0) 8 (set (getD (a .eras) (a .by .0) []) (a .of .0) (a .era .0)) (search needs) (c .if1 .left)
 

@@ -1,27 +1,22 @@
+-- `block::store::with_header` meets its contract: within the words it writes the word, and past them nothing.
+-- Assumes nothing.
 use Rattle.block.proofs.Lists.{write-past}
 use borrow.Author.Needs.{needs}
 use Rattle.block.proofs.store.with_header.Statement.{statement}
 use Rattle.block.proofs.store.with_header.Tie as tie
-use Rattle.block.proofs.store.with_header.Reads as reads
-use Rattle.block.proofs.store.with_header.Lts as lts
 
--- src/store.rt:53:14
 cast-at : tie.Need-cast-at
 cast-at c = search needs
 
--- src/store.rt:56:9
 mul-next : tie.Need-mul-next
 mul-next c = search needs
 
--- src/store.rt:56:9
 element-write-next : tie.Need-element-write-next
 element-write-next c = search needs
 
--- src/store.rt:57:9
 returns : tie.Need-returns
 returns c = search needs
 
--- src/store.rt:50:1
 returns-2 : tie.Need-returns-2
 returns-2 c = let a = c .before .before .args in
     let p = write-past (a .block .headers) (a .slot .0) 64 (a .word) (search needs) (c .if1 .left) in

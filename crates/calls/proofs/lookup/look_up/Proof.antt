@@ -1,3 +1,5 @@
+-- `calls::lookup::look_up` meets its contract: at each `return` the checks that led there say which was the first not to pass, or that all passed.
+-- Assumes nothing.
 use Rattle.calls.specs.Calls.{plainCall, checks, effect}
 use mathlib.Core.Path.{sym, _∙_}
 use Rattle.numbers.proofs.Checked.{client-known, client-large}
@@ -6,87 +8,61 @@ use Rattle.numbers.proofs.Called.{held, lost}
 use borrow.Author.Needs.{needs}
 use Rattle.calls.proofs.lookup.look_up.Statement.{statement}
 use Rattle.calls.proofs.lookup.look_up.Tie as tie
-use Rattle.calls.proofs.lookup.look_up.Reads as reads
-use Rattle.calls.proofs.lookup.look_up.Lts as lts
-use Rattle.block.proofs.cell_at.Reads as cell-at-reads
-use Rattle.calls.proofs.lookup.looked.Reads as looked-reads
-use Rattle.calls.proofs.refused.Reads as refused-reads
-use Rattle.calls.proofs.standing.stands.Reads as stands-reads
-use Rattle.calls.proofs.unchanged.Reads as unchanged-reads
-use Rattle.numbers.proofs.Client.checked.Reads as checked-reads
-use Rattle.numbers.proofs.checked_cell.Reads as checked-cell-reads
 
--- src/lookup.rt:65:34
 checked-requires : tie.Need-checked-requires
 checked-requires c κs = search needs
 
--- src/lookup.rt:65:28
 enum-known-me : tie.Need-enum-known-me
 enum-known-me c = search needs
 
--- src/lookup.rt:66:24
 enum-told : tie.Need-enum-told
 enum-told c = search needs
 
--- src/lookup.rt:66:9
 refused-requires : tie.Need-refused-requires
 refused-requires c κs = search needs
 
--- src/lookup.rt:66:9
 returns : tie.Need-returns
 unfolding plainCall checks effect
 returns c = c .refused .ensures ∙ rw (client-large (c .before .before .before .before .args .c) (sym (c .before .before .before .checked .ensures) ∙ c .before .enum-told .given .1))
 
--- src/lookup.rt:68:31
 checked-cell-requires : tie.Need-checked-cell-requires
 checked-cell-requires c κs = search needs
 
--- src/lookup.rt:68:26
 enum-known-k : tie.Need-enum-known-k
 enum-known-k c = search needs
 
--- src/lookup.rt:69:24
 enum-told-2 : tie.Need-enum-told-2
 enum-told-2 c = search needs
 
--- src/lookup.rt:69:9
 refused-requires-2 : tie.Need-refused-requires-2
 refused-requires-2 c κs = search needs
 
--- src/lookup.rt:69:9
 returns-2 : tie.Need-returns-2
 unfolding plainCall checks effect
 returns-2 c = let p = client-known (c .before .before .before .before .before .before .before .before .args .c) _ (sym (c .before .before .before .before .before .before .before .checked .ensures) ∙ c .before .before .before .before .before .me .given .1) in
     c .refused2 .ensures ∙ rw (p .passed, cell-large (c .before .before .before .before .before .before .before .before .args .cell) (sym (c .before .before .before .checked-cell .ensures) ∙ c .before .enum-told2 .given .1))
 
--- src/lookup.rt:72:9
 stands-requires : tie.Need-stands-requires
 stands-requires c κs = search needs
 
--- src/lookup.rt:73:9
 refused-requires-3 : tie.Need-refused-requires-3
 refused-requires-3 c κs = search needs
 
--- src/lookup.rt:73:9
 returns-3 : tie.Need-returns-3
 unfolding plainCall checks effect
 returns-3 c = let p = client-known (c .before .before .before .before .before .before .before .before .before .before .before .before .args .c) _ (sym (c .before .before .before .before .before .before .before .before .before .before .before .checked .ensures) ∙ c .before .before .before .before .before .before .before .before .before .me .given .1) in
     let q = cell-known (c .before .before .before .before .before .before .before .before .before .before .before .before .args .cell) _ (sym (c .before .before .before .before .before .before .before .checked-cell .ensures) ∙ c .before .before .before .before .before .k .given .1) in
     c .refused3 .ensures ∙ rw (p .passed, q .passed, rw (← (p .same)) at (lost (c .before .before .stands .ensures) (c .before .if1 .taken)))
 
--- src/lookup.rt:77:29
 cell-at-requires : tie.Need-cell-at-requires
 cell-at-requires c κs = search needs
 
--- src/lookup.rt:77:15
 looked-requires : tie.Need-looked-requires
 looked-requires c κs = search needs
 
--- src/lookup.rt:77:5
 unchanged-requires : tie.Need-unchanged-requires
 unchanged-requires c κs = search needs
 
--- src/lookup.rt:62:1
 returns-4 : tie.Need-returns-4
 unfolding plainCall checks effect
 returns-4 c = let p = client-known (c .before .before .before .before .before .before .before .before .before .before .before .before .before .before .before .before .before .before .args .c) _ (sym (c .before .before .before .before .before .before .before .before .before .before .before .before .before .before .before .before .before .checked .ensures) ∙ c .before .before .before .before .before .before .before .before .before .before .before .before .before .before .before .me .given .1) in

@@ -1,88 +1,67 @@
+-- `calls::lookup::releasing` meets its contract: each arm is the definition at that constructor.
+-- Assumes nothing.
 use mathlib.Core.Path.{sym, _∙_}
 use borrow.Author.Needs.{needs}
 use Rattle.calls.proofs.lookup.releasing.Statement.{statement}
 use Rattle.calls.proofs.lookup.releasing.Tie as tie
-use Rattle.calls.proofs.lookup.releasing.Reads as reads
-use Rattle.calls.proofs.lookup.releasing.Lts as lts
-use Rattle.calls.proofs.lookup.release_of.Reads as release-of-reads
 
--- src/lookup.rt:30:24
 enum-told : tie.Need-enum-told
 enum-told c = search needs
 
--- src/lookup.rt:31:21
 enum-known-stage : tie.Need-enum-known-stage
 enum-known-stage c = search needs
 
--- src/lookup.rt:31:28
 release-of-requires : tie.Need-release-of-requires
 release-of-requires c κs = search needs
 
--- src/lookup.rt:32:21
 enum-known-stage-2 : tie.Need-enum-known-stage-2
 enum-known-stage-2 c = search needs
 
--- src/lookup.rt:32:31
 release-of-requires-2 : tie.Need-release-of-requires-2
 release-of-requires-2 c κs = search needs
 
--- src/lookup.rt:33:20
 enum-known-stage-3 : tie.Need-enum-known-stage-3
 enum-known-stage-3 c = search needs
 
--- src/lookup.rt:33:30
 release-of-requires-3 : tie.Need-release-of-requires-3
 release-of-requires-3 c κs = search needs
 
--- src/lookup.rt:34:21
 enum-known-stage-4 : tie.Need-enum-known-stage-4
 enum-known-stage-4 c = search needs
 
--- src/lookup.rt:34:31
 release-of-requires-4 : tie.Need-release-of-requires-4
 release-of-requires-4 c κs = search needs
 
--- src/lookup.rt:35:21
 enum-known-stage-5 : tie.Need-enum-known-stage-5
 enum-known-stage-5 c = search needs
 
--- src/lookup.rt:35:31
 release-of-requires-5 : tie.Need-release-of-requires-5
 release-of-requires-5 c κs = search needs
 
--- src/lookup.rt:36:20
 enum-known-stage-6 : tie.Need-enum-known-stage-6
 enum-known-stage-6 c = search needs
 
--- src/lookup.rt:36:30
 release-of-requires-6 : tie.Need-release-of-requires-6
 release-of-requires-6 c κs = search needs
 
--- src/lookup.rt:26:1
 returns : tie.Need-returns
 returns c = search needs
 
--- src/lookup.rt:26:1
 returns-2 : tie.Need-returns-2
 returns-2 c = c .release-of .ensures ∙ rw (c .before .before .stage .given .1)
 
--- src/lookup.rt:26:1
 returns-3 : tie.Need-returns-3
 returns-3 c = c .release-of2 .ensures ∙ rw (c .before .before .stage2 .given .1)
 
--- src/lookup.rt:26:1
 returns-4 : tie.Need-returns-4
 returns-4 c = c .release-of3 .ensures ∙ rw (c .before .before .stage3 .given .1)
 
--- src/lookup.rt:26:1
 returns-5 : tie.Need-returns-5
 returns-5 c = c .release-of4 .ensures ∙ rw (c .before .before .stage4 .given .1)
 
--- src/lookup.rt:26:1
 returns-6 : tie.Need-returns-6
 returns-6 c = c .release-of5 .ensures ∙ rw (c .before .before .stage5 .given .1)
 
--- src/lookup.rt:26:1
 returns-7 : tie.Need-returns-7
 returns-7 c = c .release-of6 .ensures ∙ rw (c .before .before .stage6 .given .1)
 

@@ -1,56 +1,39 @@
+-- `calls::opening::open_known` meets its contract: at each `return` the checks that led there say which was the first not to pass, or that all passed.
+-- Assumes nothing.
 use mathlib.Core.Path.{sym, _∙_}
 use Rattle.numbers.proofs.Called.{held, lost}
 use borrow.Author.Tests.{lt-ltb, le-ltb}
 use borrow.Author.Needs.{needs}
 use Rattle.calls.proofs.opening.open_known.Statement.{statement}
 use Rattle.calls.proofs.opening.open_known.Tie as tie
-use Rattle.calls.proofs.opening.open_known.Reads as reads
-use Rattle.calls.proofs.opening.open_known.Lts as lts
-use Rattle.block.proofs.cell_at.Reads as cell-at-reads
-use Rattle.block.proofs.matrix.own_era.Reads as own-era-reads
-use Rattle.calls.proofs.opening.is_empty.Reads as is-empty-reads
-use Rattle.calls.proofs.opening.opened.Reads as opened-reads
-use Rattle.calls.proofs.refused.Reads as refused-reads
-use Rattle.calls.proofs.standing.stands.Reads as stands-reads
-use Rattle.stages.proofs.ClientRecord.is_idle.Reads as is-idle-reads
 
--- src/opening.rt:53:9
 stands-requires : tie.Need-stands-requires
 stands-requires c κs = search needs
 
--- src/opening.rt:54:9
 refused-requires : tie.Need-refused-requires
 refused-requires c κs = search needs
 
--- src/opening.rt:54:9
 returns : tie.Need-returns
 returns c = c .refused .ensures ∙ rw (lost (c .before .before .stands .ensures) (c .before .if1 .taken))
 
--- src/opening.rt:57:9
 is-idle-requires : tie.Need-is-idle-requires
 is-idle-requires c κs = search needs
 
--- src/opening.rt:58:9
 refused-requires-2 : tie.Need-refused-requires-2
 refused-requires-2 c κs = search needs
 
--- src/opening.rt:58:9
 returns-2 : tie.Need-returns-2
 returns-2 c = c .refused2 .ensures ∙ rw (held (c .before .before .before .before .before .stands .ensures) (c .before .before .before .before .if1 .left), lost (c .before .before .is-idle .ensures) (c .before .if2 .taken))
 
--- src/opening.rt:60:18
 cell-at-requires : tie.Need-cell-at-requires
 cell-at-requires c κs = search needs
 
--- src/opening.rt:60:9
 is-empty-requires : tie.Need-is-empty-requires
 is-empty-requires c κs = search needs
 
--- src/opening.rt:61:9
 refused-requires-3 : tie.Need-refused-requires-3
 refused-requires-3 c κs = search needs
 
--- src/opening.rt:61:9
 returns-3 : tie.Need-returns-3
 returns-3 c = c .refused3 .ensures
     ∙ rw (
@@ -59,15 +42,12 @@ returns-3 c = c .refused3 .ensures
       rw (c .before .before .before .cell-at .ensures) at (lost (c .before .before .is-empty .ensures) (c .before .if3 .taken)),
     )
 
--- src/opening.rt:63:22
 own-era-requires : tie.Need-own-era-requires
 own-era-requires c κs = search needs
 
--- src/opening.rt:64:9
 refused-requires-4 : tie.Need-refused-requires-4
 refused-requires-4 c κs = search needs
 
--- src/opening.rt:64:9
 returns-4 : tie.Need-returns-4
 returns-4 c = c .refused4 .ensures
     ∙ rw (
@@ -77,11 +57,9 @@ returns-4 c = c .refused4 .ensures
       le-ltb _ _ (rw (c .before .before .before .own-era .ensures) at (c .before .if4 .taken)),
     )
 
--- src/opening.rt:66:5
 opened-requires : tie.Need-opened-requires
 opened-requires c κs = search needs
 
--- src/opening.rt:49:1
 returns-5 : tie.Need-returns-5
 returns-5 c = c .opened .ensures
     ∙ rw (

@@ -1,3 +1,5 @@
+-- `calls::opening::release` meets its contract: at each `return` the checks that led there say which was the first not to pass, or that all passed.
+-- Assumes nothing.
 use Rattle.calls.specs.Calls.{plainCall, checks, effect}
 use mathlib.Core.Path.{sym, _∙_}
 use Rattle.numbers.proofs.Checked.{client-known, client-large}
@@ -5,61 +7,43 @@ use Rattle.numbers.proofs.Checked.{cell-known, cell-large}
 use borrow.Author.Needs.{needs}
 use Rattle.calls.proofs.opening.release.Statement.{statement}
 use Rattle.calls.proofs.opening.release.Tie as tie
-use Rattle.calls.proofs.opening.release.Reads as reads
-use Rattle.calls.proofs.opening.release.Lts as lts
-use Rattle.calls.proofs.opening.release_known.Reads as release-known-reads
-use Rattle.calls.proofs.refused.Reads as refused-reads
-use Rattle.numbers.proofs.Client.checked.Reads as checked-reads
-use Rattle.numbers.proofs.checked_cell.Reads as checked-cell-reads
 
--- src/opening.rt:97:34
 checked-requires : tie.Need-checked-requires
 checked-requires c κs = search needs
 
--- src/opening.rt:97:28
 enum-known-me : tie.Need-enum-known-me
 enum-known-me c = search needs
 
--- src/opening.rt:98:24
 enum-told : tie.Need-enum-told
 enum-told c = search needs
 
--- src/opening.rt:98:9
 refused-requires : tie.Need-refused-requires
 refused-requires c κs = search needs
 
--- src/opening.rt:98:9
 returns : tie.Need-returns
 unfolding plainCall checks effect
 returns c = c .refused .ensures ∙ rw (client-large (c .before .before .before .before .args .c) (sym (c .before .before .before .checked .ensures) ∙ c .before .enum-told .given .1))
 
--- src/opening.rt:100:31
 checked-cell-requires : tie.Need-checked-cell-requires
 checked-cell-requires c κs = search needs
 
--- src/opening.rt:100:26
 enum-known-k : tie.Need-enum-known-k
 enum-known-k c = search needs
 
--- src/opening.rt:101:24
 enum-told-2 : tie.Need-enum-told-2
 enum-told-2 c = search needs
 
--- src/opening.rt:101:9
 refused-requires-2 : tie.Need-refused-requires-2
 refused-requires-2 c κs = search needs
 
--- src/opening.rt:101:9
 returns-2 : tie.Need-returns-2
 unfolding plainCall checks effect
 returns-2 c = let p = client-known (c .before .before .before .before .before .before .before .before .args .c) _ (sym (c .before .before .before .before .before .before .before .checked .ensures) ∙ c .before .before .before .before .before .me .given .1) in
     c .refused2 .ensures ∙ rw (p .passed, cell-large (c .before .before .before .before .before .before .before .before .args .cell) (sym (c .before .before .before .checked-cell .ensures) ∙ c .before .enum-told2 .given .1))
 
--- src/opening.rt:103:5
 release-known-requires : tie.Need-release-known-requires
 release-known-requires c κs = search needs
 
--- src/opening.rt:94:1
 returns-3 : tie.Need-returns-3
 unfolding plainCall checks effect
 returns-3 c = let p = client-known (c .before .before .before .before .before .before .before .before .before .args .c) _ (sym (c .before .before .before .before .before .before .before .before .checked .ensures) ∙ c .before .before .before .before .before .before .me .given .1) in

@@ -1,41 +1,31 @@
+-- `calls::standing::leave` meets its contract: at each `return` the checks that led there say which was the first not to pass, or that all passed.
+-- Assumes nothing.
 use Rattle.calls.specs.Calls.{plainCall, checks, effect}
 use mathlib.Core.Path.{sym, _∙_}
 use Rattle.numbers.proofs.Checked.{client-known, client-large}
 use borrow.Author.Needs.{needs}
 use Rattle.calls.proofs.standing.leave.Statement.{statement}
 use Rattle.calls.proofs.standing.leave.Tie as tie
-use Rattle.calls.proofs.standing.leave.Reads as reads
-use Rattle.calls.proofs.standing.leave.Lts as lts
-use Rattle.calls.proofs.refused.Reads as refused-reads
-use Rattle.calls.proofs.standing.leave_known.Reads as leave-known-reads
-use Rattle.numbers.proofs.Client.checked.Reads as checked-reads
 
--- src/standing.rt:70:34
 checked-requires : tie.Need-checked-requires
 checked-requires c κs = search needs
 
--- src/standing.rt:70:28
 enum-known-me : tie.Need-enum-known-me
 enum-known-me c = search needs
 
--- src/standing.rt:71:24
 enum-told : tie.Need-enum-told
 enum-told c = search needs
 
--- src/standing.rt:71:9
 refused-requires : tie.Need-refused-requires
 refused-requires c κs = search needs
 
--- src/standing.rt:71:9
 returns : tie.Need-returns
 unfolding plainCall checks effect
 returns c = c .refused .ensures ∙ rw (client-large (c .before .before .before .before .args .c) (sym (c .before .before .before .checked .ensures) ∙ c .before .enum-told .given .1))
 
--- src/standing.rt:73:5
 leave-known-requires : tie.Need-leave-known-requires
 leave-known-requires c κs = search needs
 
--- src/standing.rt:67:1
 returns-2 : tie.Need-returns-2
 unfolding plainCall checks effect
 returns-2 c = let p = client-known (c .before .before .before .before .before .args .c) _ (sym (c .before .before .before .before .checked .ensures) ∙ c .before .before .me .given .1) in

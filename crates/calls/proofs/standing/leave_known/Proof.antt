@@ -1,54 +1,38 @@
+-- `calls::standing::leave_known` meets its contract: at each `return` the checks that led there say which was the first not to pass, or that all passed.
+-- Assumes nothing.
 use mathlib.Core.Path.{sym, _∙_}
 use Rattle.numbers.proofs.Called.{held, lost}
 use borrow.Author.Needs.{needs}
 use Rattle.calls.proofs.standing.leave_known.Statement.{statement}
 use Rattle.calls.proofs.standing.leave_known.Tie as tie
-use Rattle.calls.proofs.standing.leave_known.Reads as reads
-use Rattle.calls.proofs.standing.leave_known.Lts as lts
-use Rattle.calls.proofs.accepted.Reads as accepted-reads
-use Rattle.calls.proofs.refused.Reads as refused-reads
-use Rattle.calls.proofs.standing.found_nothing.Reads as found-nothing-reads
-use Rattle.calls.proofs.standing.stands.Reads as stands-reads
-use Rattle.rescue.proofs.search.lowest_full.Reads as lowest-full-reads
-use Rattle.stages.proofs.ClientRecord.is_idle.Reads as is-idle-reads
 
--- src/standing.rt:81:9
 stands-requires : tie.Need-stands-requires
 stands-requires c κs = search needs
 
--- src/standing.rt:82:9
 refused-requires : tie.Need-refused-requires
 refused-requires c κs = search needs
 
--- src/standing.rt:82:9
 returns : tie.Need-returns
 returns c = c .refused .ensures ∙ rw (lost (c .before .before .stands .ensures) (c .before .if1 .taken))
 
--- src/standing.rt:85:9
 is-idle-requires : tie.Need-is-idle-requires
 is-idle-requires c κs = search needs
 
--- src/standing.rt:86:9
 refused-requires-2 : tie.Need-refused-requires-2
 refused-requires-2 c κs = search needs
 
--- src/standing.rt:86:9
 returns-2 : tie.Need-returns-2
 returns-2 c = c .refused2 .ensures ∙ rw (held (c .before .before .before .before .before .stands .ensures) (c .before .before .before .before .if1 .left), lost (c .before .before .is-idle .ensures) (c .before .if2 .taken))
 
--- src/standing.rt:88:23
 lowest-full-requires : tie.Need-lowest-full-requires
 lowest-full-requires c κs = search needs
 
--- src/standing.rt:88:9
 found-nothing-requires : tie.Need-found-nothing-requires
 found-nothing-requires c κs = search needs
 
--- src/standing.rt:89:9
 refused-requires-3 : tie.Need-refused-requires-3
 refused-requires-3 c κs = search needs
 
--- src/standing.rt:89:9
 returns-3 : tie.Need-returns-3
 returns-3 c = c .refused3 .ensures
     ∙ rw (
@@ -57,11 +41,9 @@ returns-3 c = c .refused3 .ensures
       rw (c .before .before .before .lowest-full .ensures) at (lost (c .before .before .found-nothing .ensures) (c .before .if3 .taken)),
     )
 
--- src/standing.rt:91:5
 accepted-requires : tie.Need-accepted-requires
 accepted-requires c κs = search needs
 
--- src/standing.rt:77:1
 returns-4 : tie.Need-returns-4
 returns-4 c = c .accepted .ensures
     ∙ rw (

@@ -1,16 +1,13 @@
+-- `calls::standing::rescuer_fails` meets its contract: what it returns computes to the definition.
+-- Assumes nothing.
 use Rattle.calls.specs.Calls.{plainCall, checks, effect}
 use borrow.Author.Needs.{needs}
 use Rattle.calls.proofs.standing.rescuer_fails.Statement.{statement}
 use Rattle.calls.proofs.standing.rescuer_fails.Tie as tie
-use Rattle.calls.proofs.standing.rescuer_fails.Reads as reads
-use Rattle.calls.proofs.standing.rescuer_fails.Lts as lts
-use Rattle.calls.proofs.standing.turn.Reads as turn-reads
 
--- src/standing.rt:112:5
 turn-requires : tie.Need-turn-requires
 turn-requires c κs = search needs
 
--- src/standing.rt:109:1
 returns : tie.Need-returns
 unfolding plainCall checks effect
 returns c = c .turn .ensures

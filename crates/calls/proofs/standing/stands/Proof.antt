@@ -1,25 +1,19 @@
+-- `calls::standing::stands` meets its contract: what it returns computes to the definition.
+-- Assumes nothing.
 use mathlib.Core.Path.{sym, _∙_}
 use borrow.Author.Needs.{needs}
 use Rattle.calls.proofs.standing.stands.Statement.{statement}
 use Rattle.calls.proofs.standing.stands.Tie as tie
-use Rattle.calls.proofs.standing.stands.Reads as reads
-use Rattle.calls.proofs.standing.stands.Lts as lts
-use Rattle.block.proofs.standing_at.Reads as standing-at-reads
-use Rattle.calls.proofs.standing.standing_code.Reads as standing-code-reads
 
--- src/standing.rt:32:19
 standing-at-requires : tie.Need-standing-at-requires
 standing-at-requires c κs = search needs
 
--- src/standing.rt:32:5
 standing-code-requires : tie.Need-standing-code-requires
 standing-code-requires c κs = search needs
 
--- src/standing.rt:32:54
 standing-code-requires-2 : tie.Need-standing-code-requires-2
 standing-code-requires-2 c κs = search needs
 
--- src/standing.rt:29:1
 returns : tie.Need-returns
 returns c = rw (c .standing-code2 .ensures, c .before .standing-code .ensures, c .before .before .standing-at .ensures)
 

@@ -1,59 +1,43 @@
+-- `calls::standing::turn` meets its contract: at each `return` the checks that led there say which was the first not to pass, or that all passed.
+-- Assumes nothing.
 use mathlib.Core.Path.{sym, _∙_}
 use Rattle.numbers.proofs.Checked.{client-known, client-large}
 use Rattle.numbers.proofs.Called.{held, lost}
 use borrow.Author.Needs.{needs}
 use Rattle.calls.proofs.standing.turn.Statement.{statement}
 use Rattle.calls.proofs.standing.turn.Tie as tie
-use Rattle.calls.proofs.standing.turn.Reads as reads
-use Rattle.calls.proofs.standing.turn.Lts as lts
-use Rattle.calls.proofs.accepted.Reads as accepted-reads
-use Rattle.calls.proofs.nothing.Reads as nothing-reads
-use Rattle.calls.proofs.refused.Reads as refused-reads
-use Rattle.calls.proofs.standing.stands.Reads as stands-reads
-use Rattle.numbers.proofs.Client.checked.Reads as checked-reads
 
--- src/standing.rt:49:34
 checked-requires : tie.Need-checked-requires
 checked-requires c κs = search needs
 
--- src/standing.rt:49:28
 enum-known-me : tie.Need-enum-known-me
 enum-known-me c = search needs
 
--- src/standing.rt:50:24
 enum-told : tie.Need-enum-told
 enum-told c = search needs
 
--- src/standing.rt:50:9
 refused-requires : tie.Need-refused-requires
 refused-requires c κs = search needs
 
--- src/standing.rt:50:9
 returns : tie.Need-returns
 returns c = c .refused .ensures ∙ rw (client-large (c .before .before .before .before .args .c) (sym (c .before .before .before .checked .ensures) ∙ c .before .enum-told .given .1))
 
--- src/standing.rt:53:9
 stands-requires : tie.Need-stands-requires
 stands-requires c κs = search needs
 
--- src/standing.rt:54:9
 refused-requires-2 : tie.Need-refused-requires-2
 refused-requires-2 c κs = search needs
 
--- src/standing.rt:54:9
 returns-2 : tie.Need-returns-2
 returns-2 c = let p = client-known (c .before .before .before .before .before .before .before .before .args .c) _ (sym (c .before .before .before .before .before .before .before .checked .ensures) ∙ c .before .before .before .before .before .me .given .1) in
     c .refused2 .ensures ∙ rw (p .passed, rw (← (p .same)) at (lost (c .before .before .stands .ensures) (c .before .if1 .taken)))
 
--- src/standing.rt:56:14
 nothing-requires : tie.Need-nothing-requires
 nothing-requires c κs = search needs
 
--- src/standing.rt:56:5
 accepted-requires : tie.Need-accepted-requires
 accepted-requires c κs = search needs
 
--- src/standing.rt:46:1
 returns-3 : tie.Need-returns-3
 returns-3 c = let p = client-known (c .before .before .before .before .before .before .before .before .before .args .c) _ (sym (c .before .before .before .before .before .before .before .before .checked .ensures) ∙ c .before .before .before .before .before .before .me .given .1) in
     c .accepted .ensures ∙ rw (p .passed, rw (← (p .same)) at (held (c .before .before .before .stands .ensures) (c .before .before .if1 .left)), c .before .nothing .ensures, ← (p .same))

@@ -1,3 +1,5 @@
+-- `calls::steps::rescue_step` meets its contract: at each `return` the checks that led there say which was the first not to pass, or that all passed.
+-- Assumes nothing.
 use Rattle.calls.specs.Calls.{plainCall, checks, effect}
 use mathlib.Core.Path.{sym, _∙_}
 use Rattle.numbers.proofs.Checked.{client-known, client-large}
@@ -5,53 +7,37 @@ use Rattle.numbers.proofs.Called.{held, lost}
 use borrow.Author.Needs.{needs}
 use Rattle.calls.proofs.steps.rescue_step.Statement.{statement}
 use Rattle.calls.proofs.steps.rescue_step.Tie as tie
-use Rattle.calls.proofs.steps.rescue_step.Reads as reads
-use Rattle.calls.proofs.steps.rescue_step.Lts as lts
-use Rattle.calls.proofs.refused.Reads as refused-reads
-use Rattle.calls.proofs.standing.stands.Reads as stands-reads
-use Rattle.calls.proofs.steps.rescue_known.Reads as rescue-known-reads
-use Rattle.numbers.proofs.Client.checked.Reads as checked-reads
 
--- src/steps.rt:62:34
 checked-requires : tie.Need-checked-requires
 checked-requires c κs = search needs
 
--- src/steps.rt:62:28
 enum-known-me : tie.Need-enum-known-me
 enum-known-me c = search needs
 
--- src/steps.rt:63:24
 enum-told : tie.Need-enum-told
 enum-told c = search needs
 
--- src/steps.rt:63:9
 refused-requires : tie.Need-refused-requires
 refused-requires c κs = search needs
 
--- src/steps.rt:63:9
 returns : tie.Need-returns
 unfolding plainCall checks effect
 returns c = c .refused .ensures ∙ rw (client-large (c .before .before .before .before .args .c) (sym (c .before .before .before .checked .ensures) ∙ c .before .enum-told .given .1))
 
--- src/steps.rt:66:9
 stands-requires : tie.Need-stands-requires
 stands-requires c κs = search needs
 
--- src/steps.rt:67:9
 refused-requires-2 : tie.Need-refused-requires-2
 refused-requires-2 c κs = search needs
 
--- src/steps.rt:67:9
 returns-2 : tie.Need-returns-2
 unfolding plainCall checks effect
 returns-2 c = let p = client-known (c .before .before .before .before .before .before .before .before .args .c) _ (sym (c .before .before .before .before .before .before .before .checked .ensures) ∙ c .before .before .before .before .before .me .given .1) in
     c .refused2 .ensures ∙ rw (p .passed, rw (← (p .same)) at (lost (c .before .before .stands .ensures) (c .before .if1 .taken)))
 
--- src/steps.rt:69:5
 rescue-known-requires : tie.Need-rescue-known-requires
 rescue-known-requires c κs = search needs
 
--- src/steps.rt:59:1
 returns-3 : tie.Need-returns-3
 unfolding plainCall checks effect
 returns-3 c = let p = client-known (c .before .before .before .before .before .before .before .before .args .c) _ (sym (c .before .before .before .before .before .before .before .checked .ensures) ∙ c .before .before .before .before .before .me .given .1) in

@@ -1,138 +1,98 @@
+-- `rescue::RescuerRecord::step` meets its contract: each arm is the definition at that constructor.
+-- Assumes nothing.
 use mathlib.Core.Path.{_∙_}
 use Rattle.rescue.specs.Rescue.{rescueOf}
 use borrow.Author.Needs.{needs}
 use Rattle.rescue.proofs.RescuerRecord.step.Statement.{statement}
 use Rattle.rescue.proofs.RescuerRecord.step.Tie as tie
-use Rattle.rescue.proofs.RescuerRecord.step.Reads as reads
-use Rattle.rescue.proofs.RescuerRecord.step.Lts as lts
-use Rattle.block.proofs.header_at.Reads as header-at-reads
-use Rattle.block.proofs.matrix.own_era.Reads as own-era-reads
-use Rattle.block.proofs.matrix.seen_era.Reads as seen-era-reads
-use Rattle.rescue.proofs.as_rescue.Reads as as-rescue-reads
-use Rattle.rescue.proofs.conditions.first.Reads as first-reads
-use Rattle.rescue.proofs.conditions.second.Reads as second-reads
-use Rattle.rescue.proofs.raise_era.Reads as raise-era-reads
-use Rattle.rescue.proofs.read_log.Reads as read-log-reads
-use Rattle.rescue.proofs.search.lowest_full.Reads as lowest-full-reads
-use Rattle.rescue.proofs.searched.Reads as searched-reads
-use Rattle.rescue.proofs.write_cell.Reads as write-cell-reads
-use Rattle.stages.proofs.ClientRecord.step.Reads as step-reads
 
--- src/lib.rt:48:36
 enum-told : tie.Need-enum-told
 enum-told c = search needs
 
--- src/lib.rt:48:36
 read-log-requires : tie.Need-read-log-requires
 read-log-requires c κs = search needs
 
--- src/lib.rt:49:36
 enum-known-step : tie.Need-enum-known-step
 enum-known-step c = search needs
 
--- src/lib.rt:52:45
 own-era-requires : tie.Need-own-era-requires
 own-era-requires c κs = search needs
 
--- src/lib.rt:52:63
 header-at-requires : tie.Need-header-at-requires
 header-at-requires c κs = search needs
 
--- src/lib.rt:52:17
 first-requires : tie.Need-first-requires
 first-requires c κs = search needs
 
--- src/lib.rt:54:36
 enum-known-step-2 : tie.Need-enum-known-step-2
 enum-known-step-2 c = search needs
 
--- src/lib.rt:54:81
 own-era-requires-2 : tie.Need-own-era-requires-2
 own-era-requires-2 c κs = search needs
 
--- src/lib.rt:54:99
 seen-era-requires : tie.Need-seen-era-requires
 seen-era-requires c κs = search needs
 
--- src/lib.rt:54:49
 second-requires : tie.Need-second-requires
 second-requires c κs = search needs
 
--- src/lib.rt:55:30
 enum-known-step-3 : tie.Need-enum-known-step-3
 enum-known-step-3 c = search needs
 
--- src/lib.rt:55:40
 write-cell-requires : tie.Need-write-cell-requires
 write-cell-requires c κs = search needs
 
--- src/lib.rt:56:45
 enum-told-2 : tie.Need-enum-told-2
 enum-told-2 c = search needs
 
--- src/lib.rt:56:45
 own-era-requires-3 : tie.Need-own-era-requires-3
 own-era-requires-3 c κs = search needs
 
--- src/lib.rt:56:32
 raise-era-requires : tie.Need-raise-era-requires
 raise-era-requires c κs = search needs
 
--- src/lib.rt:57:47
 enum-told-3 : tie.Need-enum-told-3
 enum-told-3 c = search needs
 
--- src/lib.rt:57:47
 lowest-full-requires : tie.Need-lowest-full-requires
 lowest-full-requires c κs = search needs
 
--- src/lib.rt:57:35
 searched-requires : tie.Need-searched-requires
 searched-requires c κs = search needs
 
--- src/lib.rt:58:33
 enum-known-step-4 : tie.Need-enum-known-step-4
 enum-known-step-4 c = search needs
 
--- src/lib.rt:58:54
 step-requires : tie.Need-step-requires
 step-requires c κs = search needs
 
--- src/lib.rt:58:44
 as-rescue-requires : tie.Need-as-rescue-requires
 as-rescue-requires c κs = search needs
 
--- src/lib.rt:43:5
 returns : tie.Need-returns
 unfolding rescueOf
 returns c = c .read-log .ensures ∙ rw (c .before .enum-told .given .1)
 
--- src/lib.rt:43:5
 returns-2 : tie.Need-returns-2
 unfolding rescueOf
 returns-2 c = c .first .ensures ∙ rw (c .before .before .before .before .before .before .step .given .1, c .before .header-at .ensures, c .before .before .own-era .ensures)
 
--- src/lib.rt:43:5
 returns-3 : tie.Need-returns-3
 unfolding rescueOf
 returns-3 c = c .second .ensures ∙ rw (c .before .before .before .before .step2 .given .1, c .before .seen-era .ensures, c .before .before .own-era2 .ensures)
 
--- src/lib.rt:43:5
 returns-4 : tie.Need-returns-4
 unfolding rescueOf
 returns-4 c = c .write-cell .ensures ∙ rw (c .before .before .step3 .given .1)
 
--- src/lib.rt:43:5
 returns-5 : tie.Need-returns-5
 unfolding rescueOf
 returns-5 c = c .raise-era .ensures ∙ rw (c .before .before .enum-told2 .given .1, c .before .own-era3 .ensures)
 
--- src/lib.rt:43:5
 returns-6 : tie.Need-returns-6
 unfolding rescueOf
 returns-6 c = c .searched .ensures ∙ rw (c .before .before .enum-told3 .given .1, c .before .lowest-full .ensures)
 
--- src/lib.rt:43:5
 returns-7 : tie.Need-returns-7
 unfolding rescueOf
 returns-7 c = c .as-rescue .ensures ∙ rw (c .before .before .before .step4 .given .1, c .before .step5 .ensures)

@@ -1,36 +1,27 @@
+-- `rescue::conditions::first` meets its contract: what it returns computes to the definition.
+-- Assumes nothing.
 use mathlib.Core.Path.{sym, _∙_}
 use Rattle.rescue.specs.Rescue.{firstCondition}
 use borrow.Author.Needs.{needs}
 use Rattle.rescue.proofs.conditions.first.Statement.{statement}
 use Rattle.rescue.proofs.conditions.first.Tie as tie
-use Rattle.rescue.proofs.conditions.first.Reads as reads
-use Rattle.rescue.proofs.conditions.first.Lts as lts
-use Rattle.rescue.proofs.conditions.onward.Reads as onward-reads
-use Rattle.rescue.proofs.conditions.swap_stands.Reads as swap-stands-reads
-use Rattle.rescue.proofs.went.Reads as went-reads
 
--- src/conditions.rt:30:8
 swap-stands-requires : tie.Need-swap-stands-requires
 swap-stands-requires c κs = search needs
 
--- src/conditions.rt:31:9
 went-requires : tie.Need-went-requires
 went-requires c κs = search needs
 
--- src/conditions.rt:33:32
 onward-requires : tie.Need-onward-requires
 onward-requires c κs = search needs
 
--- src/conditions.rt:33:9
 went-requires-2 : tie.Need-went-requires-2
 went-requires-2 c κs = search needs
 
--- src/conditions.rt:27:1
 returns : tie.Need-returns
 unfolding firstCondition
 returns c = c .went .ensures ∙ rw (sym (c .before .before .swap-stands .ensures) ∙ c .before .if1 .taken)
 
--- src/conditions.rt:27:1
 returns-2 : tie.Need-returns-2
 unfolding firstCondition
 returns-2 c = c .went2 .ensures ∙ rw (sym (c .before .before .before .swap-stands .ensures) ∙ c .before .before .if1 .left, c .before .onward .ensures)

@@ -1,41 +1,32 @@
+-- `rescue::conditions::second` meets its contract: at each `return` the test that led there is the test of the definition.
+-- Assumes nothing.
 use mathlib.Core.Path.{sym, _∙_}
 use Rattle.rescue.specs.Rescue.{secondCondition}
 use borrow.Author.Tests.{le-leb, lt-leb}
 use borrow.Author.Needs.{needs}
 use Rattle.rescue.proofs.conditions.second.Statement.{statement}
 use Rattle.rescue.proofs.conditions.second.Tie as tie
-use Rattle.rescue.proofs.conditions.second.Reads as reads
-use Rattle.rescue.proofs.conditions.second.Lts as lts
-use Rattle.rescue.proofs.conditions.onward.Reads as onward-reads
-use Rattle.rescue.proofs.went.Reads as went-reads
 
--- src/conditions.rt:32:9
 went-requires : tie.Need-went-requires
 went-requires c κs = search needs
 
--- src/conditions.rt:34:49
 cast-onward : tie.Need-cast-onward
 cast-onward c = search needs
 
--- src/conditions.rt:34:49
 add-onward : tie.Need-add-onward
 add-onward c = search needs
 
--- src/conditions.rt:34:32
 onward-requires : tie.Need-onward-requires
 onward-requires c κs = search needs
 
--- src/conditions.rt:34:9
 went-requires-2 : tie.Need-went-requires-2
 went-requires-2 c κs = search needs
 
--- src/conditions.rt:28:1
 returns : tie.Need-returns
 unfolding secondCondition
 returns c = let a = c .before .before .before .before .args in
     c .went .ensures ∙ rw (le-leb (a .own .0) (a .seen .0) (c .before .if1 .taken))
 
--- src/conditions.rt:28:1
 returns-2 : tie.Need-returns-2
 unfolding secondCondition
 returns-2 c = let a = c .before .before .before .before .before .before .args in

@@ -1,3 +1,5 @@
+-- `rescue::search::lowest_full` meets its contract: the loop is the definition, taken from the place it has reached.
+-- Assumes nothing.
 use borrow.Author.Needs.{needs}
 use native.Mathlib.Omega.{arith}
 use Prim.Native.Nat.{_≤_, _-_}
@@ -7,9 +9,6 @@ use Rattle.rescue.proofs.Lowest.{from, passes, finds, ends}
 use denote.Ref.{now}
 use Rattle.rescue.proofs.search.lowest_full.Statement.{statement}
 use Rattle.rescue.proofs.search.lowest_full.Tie as tie
-use Rattle.rescue.proofs.search.lowest_full.Reads as reads
-use Rattle.rescue.proofs.search.lowest_full.Lts as lts
-use Rattle.block.proofs.cell_at.Reads as cell-at-reads
 
 abbrev Inv-loop : tie.InvT-loop
 Inv-loop bytes c k₀ k = (k ≤ 16) × (lowestFull bytes (c .0) ≡ from bytes (c .0) k)
@@ -17,40 +16,32 @@ Inv-loop bytes c k₀ k = (k ≤ 16) × (lowestFull bytes (c .0) ≡ from bytes 
 abbrev μ-loop : tie.MeasureT-loop
 μ-loop bytes c k₀ k = 16 - k
 
--- src/search.rt:19:5
 loop-holds : tie.Need-loop-holds Inv-loop μ-loop
 loop-holds c = (omega arith, refl)
 
--- src/search.rt:23:13
 cell-at-requires : tie.Need-cell-at-requires Inv-loop μ-loop
 cell-at-requires c κs = search needs
 
--- src/search.rt:24:28
 enum-known-held : tie.Need-enum-known-held Inv-loop μ-loop
 enum-known-held c = search needs
 
 enum-told : tie.Need-enum-told Inv-loop μ-loop
 enum-told c = search needs
 
--- src/search.rt:27:9
 add-k : tie.Need-add-k Inv-loop μ-loop
 add-k c = omega arith
 
--- src/search.rt:19:5
 loop-less : tie.Need-loop-less Inv-loop μ-loop
 loop-less c = omega arith
 
--- src/search.rt:19:5
 loop-again : tie.Need-loop-again Inv-loop μ-loop
 loop-again c = let a = c .before .before .before .before .before .before .args in
     (omega arith, c .before .before .before .before .loop .inv .1 ∙ passes (now (a .cells)) (a .c .0) (c .before .before .before .before .loop .k) (c .before .before .before .if1 .left) (sym (c .before .before .cell-at .ensures) ∙ c .enum-told .given .1))
 
--- src/search.rt:15:1
 returns : tie.Need-returns Inv-loop μ-loop
 returns c = let a = c .before .before .before .args in
     sym (c .before .loop .inv .1 ∙ ends (now (a .cells)) (a .c .0) (c .before .loop .k) (c .if1 .taken))
 
--- src/search.rt:15:1
 returns-2 : tie.Need-returns-2 Inv-loop μ-loop
 returns-2 c = let a = c .before .before .before .before .before .before .before .args in
     sym (c .before .before .before .before .before .loop .inv .1 ∙ finds (now (a .cells)) (a .c .0) (c .before .before .before .before .before .loop .k) _ (c .before .before .before .before .if1 .left) (sym (c .before .before .before .cell-at .ensures) ∙ c .before .held .given .1))

@@ -1,137 +1,98 @@
+-- `stages::ClientRecord::step` meets its contract: each arm is the definition at that constructor.
+-- Assumes nothing.
 use mathlib.Core.Path.{_∙_}
 use Rattle.stages.specs.Stages.{stepOf}
 use borrow.Author.Needs.{needs}
 use Rattle.stages.proofs.ClientRecord.step.Statement.{statement}
 use Rattle.stages.proofs.ClientRecord.step.Tie as tie
-use Rattle.stages.proofs.ClientRecord.step.Reads as reads
-use Rattle.stages.proofs.ClientRecord.step.Lts as lts
-use Rattle.block.proofs.header_at.Reads as header-at-reads
-use Rattle.block.proofs.matrix.own_era.Reads as own-era-reads
-use Rattle.block.proofs.matrix.seen_era.Reads as seen-era-reads
-use Rattle.header.proofs.unpack.Reads as unpack-reads
-use Rattle.stages.proofs.six.load.Reads as load-reads
-use Rattle.stages.proofs.six.log_entry.Reads as log-entry-reads
-use Rattle.stages.proofs.six.note.Reads as note-reads
-use Rattle.stages.proofs.six.nothing_under_way.Reads as nothing-under-way-reads
-use Rattle.stages.proofs.six.raise_era.Reads as raise-era-reads
-use Rattle.stages.proofs.six.swap.Reads as swap-reads
-use Rattle.stages.proofs.six.write_cell.Reads as write-cell-reads
 
--- src/lib.rt:46:28
 enum-told : tie.Need-enum-told
 enum-told c = search needs
 
--- src/lib.rt:46:28
 nothing-under-way-requires : tie.Need-nothing-under-way-requires
 nothing-under-way-requires c κs = search needs
 
--- src/lib.rt:47:25
 enum-known-stage : tie.Need-enum-known-stage
 enum-known-stage c = search needs
 
--- src/lib.rt:49:31
 header-at-requires : tie.Need-header-at-requires
 header-at-requires c κs = search needs
 
--- src/lib.rt:49:17
 load-requires : tie.Need-load-requires
 load-requires c κs = search needs
 
--- src/lib.rt:51:25
 enum-known-stage-2 : tie.Need-enum-known-stage-2
 enum-known-stage-2 c = search needs
 
--- src/lib.rt:52:30
 unpack-requires : tie.Need-unpack-requires
 unpack-requires c κs = search needs
 
--- src/lib.rt:53:41
 seen-era-requires : tie.Need-seen-era-requires
 seen-era-requires c κs = search needs
 
--- src/lib.rt:53:17
 note-requires : tie.Need-note-requires
 note-requires c κs = search needs
 
--- src/lib.rt:55:24
 enum-known-stage-3 : tie.Need-enum-known-stage-3
 enum-known-stage-3 c = search needs
 
--- src/lib.rt:55:66
 own-era-requires : tie.Need-own-era-requires
 own-era-requires c κs = search needs
 
--- src/lib.rt:55:37
 log-entry-requires : tie.Need-log-entry-requires
 log-entry-requires c κs = search needs
 
--- src/lib.rt:56:25
 enum-known-stage-4 : tie.Need-enum-known-stage-4
 enum-known-stage-4 c = search needs
 
--- src/lib.rt:58:41
 own-era-requires-2 : tie.Need-own-era-requires-2
 own-era-requires-2 c κs = search needs
 
--- src/lib.rt:58:60
 header-at-requires-2 : tie.Need-header-at-requires-2
 header-at-requires-2 c κs = search needs
 
--- src/lib.rt:58:17
 swap-requires : tie.Need-swap-requires
 swap-requires c κs = search needs
 
--- src/lib.rt:60:25
 enum-known-stage-5 : tie.Need-enum-known-stage-5
 enum-known-stage-5 c = search needs
 
--- src/lib.rt:60:38
 write-cell-requires : tie.Need-write-cell-requires
 write-cell-requires c κs = search needs
 
--- src/lib.rt:61:52
 enum-told-2 : tie.Need-enum-told-2
 enum-told-2 c = search needs
 
--- src/lib.rt:61:52
 own-era-requires-3 : tie.Need-own-era-requires-3
 own-era-requires-3 c κs = search needs
 
--- src/lib.rt:61:33
 raise-era-requires : tie.Need-raise-era-requires
 raise-era-requires c κs = search needs
 
--- src/lib.rt:41:5
 returns : tie.Need-returns
 unfolding stepOf
 returns c = c .nothing-under-way .ensures ∙ rw (c .before .enum-told .given .1)
 
--- src/lib.rt:41:5
 returns-2 : tie.Need-returns-2
 unfolding stepOf
 returns-2 c = c .load .ensures ∙ rw (c .before .before .before .before .stage .given .1, c .before .header-at .ensures)
 
--- src/lib.rt:41:5
 returns-3 : tie.Need-returns-3
 unfolding stepOf
 returns-3 c = c .note .ensures ∙ rw (c .before .before .before .before .before .stage2 .given .1, c .before .seen-era .ensures, c .before .before .before .unpack .ensures)
 
--- src/lib.rt:41:5
 returns-4 : tie.Need-returns-4
 unfolding stepOf
 returns-4 c = c .log-entry .ensures ∙ rw (c .before .before .before .stage3 .given .1, c .before .own-era .ensures)
 
--- src/lib.rt:41:5
 returns-5 : tie.Need-returns-5
 unfolding stepOf
 returns-5 c = c .swap .ensures ∙ rw (c .before .before .before .before .before .stage4 .given .1, c .before .header-at2 .ensures, c .before .before .own-era2 .ensures)
 
--- src/lib.rt:41:5
 returns-6 : tie.Need-returns-6
 unfolding stepOf
 returns-6 c = c .write-cell .ensures ∙ rw (c .before .before .stage5 .given .1)
 
--- src/lib.rt:41:5
 returns-7 : tie.Need-returns-7
 unfolding stepOf
 returns-7 c = c .raise-era .ensures ∙ rw (c .before .before .enum-told2 .given .1, c .before .own-era3 .ensures)

@@ -1,43 +1,34 @@
+-- `stages::six::count_after` meets its contract: each arm is the definition at that constructor.
+-- Assumes nothing.
 use native.Mathlib.Omega.{arith}
 use borrow.Author.Needs.{needs}
 use Rattle.stages.proofs.six.count_after.Statement.{statement}
 use Rattle.stages.proofs.six.count_after.Tie as tie
-use Rattle.stages.proofs.six.count_after.Reads as reads
-use Rattle.stages.proofs.six.count_after.Lts as lts
 
--- src/six.rt:103:24
 enum-told : tie.Need-enum-told
 enum-told c = search needs
 
--- src/six.rt:104:25
 enum-told-2 : tie.Need-enum-told-2
 enum-told-2 c = search needs
 
--- src/six.rt:104:25
 add-result : tie.Need-add-result
 add-result c = search needs
 
--- src/six.rt:106:16
 enum-told-3 : tie.Need-enum-told-3
 enum-told-3 c = search needs
 
--- src/six.rt:109:17
 sub-result : tie.Need-sub-result
 sub-result c = search needs
 
--- src/six.rt:98:1
 returns : tie.Need-returns
 returns c = search needs
 
--- src/six.rt:98:1
 returns-2 : tie.Need-returns-2
 returns-2 c = rw (c .enum-told2 .given .1)
 
--- src/six.rt:98:1
 returns-3 : tie.Need-returns-3
 returns-3 c = rw (c .before .enum-told3 .given .1) (omega arith)
 
--- src/six.rt:98:1
 returns-4 : tie.Need-returns-4
 returns-4 c = rw (c .before .enum-told3 .given .1)
 

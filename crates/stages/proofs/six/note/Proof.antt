@@ -1,3 +1,5 @@
+-- `stages::six::note` meets its contract: at each `return` the test that led there is the test of the definition.
+-- Assumes nothing.
 use native.Mathlib.Omega.{arith}
 use Rattle.header.specs.Header.{eraIn}
 use mathlib.Core.Path.{sym, _∙_}
@@ -7,31 +9,22 @@ use Rattle.stages.specs.Stages.{noteStage}
 use borrow.Author.Needs.{needs}
 use Rattle.stages.proofs.six.note.Statement.{statement}
 use Rattle.stages.proofs.six.note.Tie as tie
-use Rattle.stages.proofs.six.note.Reads as reads
-use Rattle.stages.proofs.six.note.Lts as lts
-use Rattle.header.proofs.unpack.Reads as unpack-reads
-use Rattle.stages.proofs.six.went.Reads as went-reads
 
--- src/six.rt:60:9
 unpack-requires : tie.Need-unpack-requires
 unpack-requires c κs = search needs
 
--- src/six.rt:64:9
 went-requires : tie.Need-went-requires
 went-requires c κs = search needs
 
--- src/six.rt:66:9
 went-requires-2 : tie.Need-went-requires-2
 went-requires-2 c κs = search needs
 
--- src/six.rt:57:1
 returns : tie.Need-returns
 unfolding noteStage
 returns c = let a = c .before .before .before .before .before .before .before .args in
     let e = era-read _ (c .before .before .before .before .before .before .unpack .ensures) in
     c .went .ensures ∙ rw (lt-ltb (a .seen .0) (eraIn (a .kept)) (rw e (c .before .if1 .taken)), c .before .before .before .before .before .before .unpack .ensures)
 
--- src/six.rt:57:1
 returns-2 : tie.Need-returns-2
 unfolding noteStage
 returns-2 c = let a = c .before .before .before .before .before .before .before .args in

@@ -1,3 +1,5 @@
+-- `stages::six::swap` meets its contract: at each `return` the test that led there is the test of the definition.
+-- Assumes nothing.
 use borrow.Author.Tests.{eq-eqb, ne-eqb}
 use Rattle.stages.specs.Stages.{swapStage}
 use native.Mathlib.Omega.{arith}
@@ -5,39 +7,26 @@ use Rattle.header.proofs.Laws.{unpacked-narrow}
 use borrow.Author.Needs.{needs}
 use Rattle.stages.proofs.six.swap.Statement.{statement}
 use Rattle.stages.proofs.six.swap.Tie as tie
-use Rattle.stages.proofs.six.swap.Reads as reads
-use Rattle.stages.proofs.six.swap.Lts as lts
-use Rattle.header.proofs.pack.Reads as pack-reads
-use Rattle.header.proofs.unpack.Reads as unpack-reads
-use Rattle.stages.proofs.six.count_after.Reads as count-after-reads
-use Rattle.stages.proofs.six.went.Reads as went-reads
 
--- src/six.rt:91:38
 unpack-requires : tie.Need-unpack-requires
 unpack-requires c κs = search needs
 
--- src/six.rt:91:20
 count-after-requires : tie.Need-count-after-requires
 count-after-requires c κs = rw (c .unpack .ensures) (unpacked-narrow _ .count)
 
--- src/six.rt:94:75
 pack-requires : tie.Need-pack-requires
 pack-requires c κs = search needs
 
--- src/six.rt:94:9
 went-requires : tie.Need-went-requires
 went-requires c κs = search needs
 
--- src/six.rt:96:9
 went-requires-2 : tie.Need-went-requires-2
 went-requires-2 c κs = search needs
 
--- src/six.rt:83:1
 returns : tie.Need-returns
 unfolding swapStage
 returns c = rw (c .went .ensures, eq-eqb _ _ (c .before .before .before .before .before .if1 .taken), c .before .pack .ensures, c .before .before .count-after .ensures, c .before .before .before .unpack .ensures)
 
--- src/six.rt:83:1
 returns-2 : tie.Need-returns-2
 unfolding swapStage
 returns-2 c = rw (c .went2 .ensures, ne-eqb _ _ (c .before .if1 .left))
