@@ -1,21 +1,19 @@
-// The eleven calls. Each runs its checks in the order of the rules' table and answers with the first that does not
-// pass; an accepted call hands back the next records and names the one word that it writes.
-mod lookup;
-mod opening;
-mod standing;
-mod steps;
-
-use block::Block;
+// What a call is: its numbers, the records that it is given and hands back, its answer and the one word that it writes.
+// specs/ has the eleven calls, their checks in order and what each does; the crates above have their code.
+use block::Standing;
+use block::StandingWord;
+use block::standing_at;
 use block::store::Store;
-use limits::within;
+use numbers::Client;
 use numbers::answers::Answer;
 use rescue::RescueStep;
 use rescue::RescuerRecord;
 use stages::ClientRecord;
 use stages::Stage;
 ghost use mathlib.Core.Path.{_≡_};
-ghost use Rattle.calls.specs.Checks.{unchanged, refused};
-ghost use Rattle.calls.specs.Calls.{clientOf, plainCall, checkedCall, nothing, accepted};
+ghost use Rattle.block.specs.Block.{standingAt};
+ghost use Rattle.calls.specs.Checks.{unchanged, refused, standingCode, sameStanding};
+ghost use Rattle.calls.specs.Calls.{clientOf, nothing, accepted};
 
 // A call, with any numbers: the client, and where the call names them the cell and the slot.
 pub enum Call {
@@ -58,7 +56,7 @@ pub fn nothing() -> Records
 }
 
 // A call that leaves everything as it was.
-fn unchanged(answer: Answer, records: Records) -> Outcome
+pub fn unchanged(answer: Answer, records: Records) -> Outcome
     ensures { λ r. ⌜ r ≡ unchanged answer records ⌝ }
 {
     Outcome {
@@ -69,14 +67,14 @@ fn unchanged(answer: Answer, records: Records) -> Outcome
 }
 
 // A refused call.
-fn refused(answer: Answer, records: Records) -> Outcome
+pub fn refused(answer: Answer, records: Records) -> Outcome
     ensures { λ r. ⌜ r ≡ refused answer records ⌝ }
 {
     unchanged(answer, records)
 }
 
 // An accepted call.
-fn accepted(records: Records, store: Store) -> Outcome
+pub fn accepted(records: Records, store: Store) -> Outcome
     ensures { λ r. ⌜ r ≡ accepted records store ⌝ }
 {
     Outcome {
@@ -86,27 +84,8 @@ fn accepted(records: Records, store: Store) -> Outcome
     }
 }
 
-// A call of a block and records that are within their limits.
-pub fn plain_call(call: Call, block: Block, eras: [[u32; 8]; 8], records: Records) -> Outcome
-    ensures { λ r. ⌜ r ≡ plainCall call block eras records ⌝ }
-{
-    match call {
-        Call::Join(c) => standing::join(c, block, eras, records),
-        Call::Leave(c) => standing::leave(c, block, eras, records),
-        Call::Lease(c, cell, slot) => opening::lease(c, cell, slot, block, eras, records),
-        Call::Attach(c, cell, slot) => opening::attach(c, cell, slot, block, eras, records),
-        Call::Release(c, cell) => opening::release(c, cell, block, eras, records),
-        Call::Step(c) => steps::step(c, block, eras, records),
-        Call::Fail(c) => standing::fail(c, block, eras, records),
-        Call::TakeOver(c) => standing::take_over(c, block, eras, records),
-        Call::RescueStep(c) => steps::rescue_step(c, block, eras, records),
-        Call::RescuerFails(c) => standing::rescuer_fails(c, block, eras, records),
-        Call::LookUp(c, cell) => lookup::look_up(c, cell, block, eras, records),
-    }
-}
-
 // The client that a call names.
-fn client_of(call: Call) -> u64
+pub fn client_of(call: Call) -> u64
     ensures { λ r. ⌜ r ≡ clientOf call ⌝ }
 {
     match call {
@@ -124,15 +103,21 @@ fn client_of(call: Call) -> u64
     }
 }
 
-// A call of any block and any records: 11 where they are beyond their limits, before every other check.
-pub fn checked_call(call: Call, block: Block, eras: [[u32; 8]; 8], records: Records) -> Outcome
-    ensures { λ r. ⌜ r ≡ checkedCall call block eras records ⌝ }
+// The four standings told apart.
+fn standing_code(standing: Standing) -> u8
+    ensures { λ r. ⌜ r ≡ standingCode standing ⌝ }
 {
-    let client = records.client;
-    let rescuer = records.rescuer;
-    if within(client_of(call), block, eras, client, rescuer) {
-        plain_call(call, block, eras, records)
-    } else {
-        refused(Answer::BeyondLimits, records)
+    match standing {
+        Standing::Absent => 0,
+        Standing::Running => 1,
+        Standing::Failed => 2,
+        Standing::InRescue => 3,
     }
+}
+
+// Whether a client's standing is the one asked for.
+pub fn stands(asked: Standing, standings: [StandingWord; 8], client: Client) -> bool
+    ensures { λ r. ⌜ r ≡ sameStanding asked (standingAt standings (client .0)) ⌝ }
+{
+    standing_code(standing_at(standings, client)) == standing_code(asked)
 }

@@ -1,0 +1,166 @@
+// The calls that open an operation, at its load: lease, attach, release.
+use block::Block;
+use block::Cell;
+use block::Kind;
+use block::Operation;
+use block::Standing;
+use block::cell_at;
+use block::matrix::own_era;
+use block::store::Store;
+use calls::Outcome;
+use calls::Records;
+use calls::accepted;
+use calls::refused;
+use calls::stands;
+use numbers::CellCheck;
+use numbers::Client;
+use numbers::ClientCheck;
+use numbers::Slot;
+use numbers::SlotCheck;
+use numbers::answers::Answer;
+use numbers::checked_cell;
+use rescue::RescuerRecord;
+use stages::ClientRecord;
+use stages::Stage;
+ghost use mathlib.Core.Path.{_≡_};
+ghost use Rattle.calls.specs.declared.Call.{Call};
+ghost use mathlib.Core.List.{_∷_};
+ghost use Rattle.block.specs.Block.{cellAt};
+ghost use Rattle.block.specs.Store.{byteOf};
+ghost use Rattle.calls.specs.Checks.{aClient, aCell, aSlot, isEmpty, afterChecks};
+ghost use Rattle.calls.specs.Calls.{plainCall, opened, asksToOpen, asksToRelease};
+
+// The record of an operation just opened, beside the rescuer's as it was.
+fn opened(kind: Kind, cell: u8, slot: Slot, records: Records) -> Outcome
+    ensures { λ r. ⌜ r ≡ opened kind cell slot records ⌝ }
+{
+    let op = Operation { kind, cell, slot };
+    let client = ClientRecord {
+        stage: Stage::Load(op),
+    };
+    let rescuer = records.rescuer;
+    accepted(Records { client, rescuer }, Store::Nothing)
+}
+
+// Lease and attach: the three numbers, then the rest.
+fn open(
+    kind: Kind,
+    c: u64,
+    cell: u64,
+    slot: u64,
+    block: Block,
+    eras: [[u32; 8]; 8],
+    records: Records,
+) -> Outcome
+    ensures { λ r. ⌜ r ≡ afterChecks (aClient c ∷ aCell cell ∷ aSlot slot ∷ asksToOpen c cell block eras records) records (opened kind cell (record { 0 = slot }) records) ⌝ }
+{
+    let ClientCheck::Known(me) = Client::checked(c) else {
+        return refused(Answer::NoSuchClient, records);
+    };
+    let CellCheck::Known(k) = checked_cell(cell) else {
+        return refused(Answer::NoSuchCell, records);
+    };
+    let SlotCheck::Known(s) = Slot::checked(slot) else {
+        return refused(Answer::NoSuchSlot, records);
+    };
+    open_known(kind, me, k, s, block, eras, records)
+}
+
+// Lease and attach, once the numbers are known.
+fn open_known(
+    kind: Kind,
+    me: Client,
+    k: u8,
+    s: Slot,
+    block: Block,
+    eras: [[u32; 8]; 8],
+    records: Records,
+) -> Outcome
+    ensures { λ r. ⌜ r ≡ afterChecks (asksToOpen (me .0) k block eras records) records (opened kind k s records) ⌝ }
+{
+    let standings = block.standings;
+    if !stands(Standing::Running, standings, me) {
+        return refused(Answer::WrongStanding, records);
+    }
+    let client = records.client;
+    if !client.is_idle() {
+        return refused(Answer::WrongMoment, records);
+    }
+    if !is_empty(cell_at(&block.cells, me, k)) {
+        return refused(Answer::WrongCell, records);
+    }
+    if 4294967200 <= own_era(eras, me).0 {
+        return refused(Answer::AtEraStop, records);
+    }
+    opened(kind, k, s, records)
+}
+
+// Whether a cell is empty.
+fn is_empty(held: Cell) -> bool
+    ensures { λ r. ⌜ r ≡ isEmpty held ⌝ }
+{
+    match held {
+        Cell::Empty => true,
+        Cell::Holds(_) => false,
+    }
+}
+
+// 3 lease.
+pub fn lease(
+    c: u64,
+    cell: u64,
+    slot: u64,
+    block: Block,
+    eras: [[u32; 8]; 8],
+    records: Records,
+) -> Outcome
+    ensures { λ r. ⌜ r ≡ plainCall (Call.Lease c cell slot) block eras records ⌝ }
+{
+    open(Kind::Lease, c, cell, slot, block, eras, records)
+}
+
+// 4 attach.
+pub fn attach(
+    c: u64,
+    cell: u64,
+    slot: u64,
+    block: Block,
+    eras: [[u32; 8]; 8],
+    records: Records,
+) -> Outcome
+    ensures { λ r. ⌜ r ≡ plainCall (Call.Attach c cell slot) block eras records ⌝ }
+{
+    open(Kind::Attach, c, cell, slot, block, eras, records)
+}
+
+// 5 release: of the slot that the cell holds now.
+pub fn release(c: u64, cell: u64, block: Block, eras: [[u32; 8]; 8], records: Records) -> Outcome
+    ensures { λ r. ⌜ r ≡ plainCall (Call.Release c cell) block eras records ⌝ }
+{
+    let ClientCheck::Known(me) = Client::checked(c) else {
+        return refused(Answer::NoSuchClient, records);
+    };
+    let CellCheck::Known(k) = checked_cell(cell) else {
+        return refused(Answer::NoSuchCell, records);
+    };
+    release_known(me, k, block, records)
+}
+
+// Release, once the numbers are known.
+fn release_known(me: Client, k: u8, block: Block, records: Records) -> Outcome
+    ensures { λ r. ⌜ r ≡ afterChecks (asksToRelease (me .0) k block records) records (opened Kind.Release k (record { 0 = byteOf (cellAt (block .cells) (me .0) k) }) records) ⌝ }
+{
+    let standings = block.standings;
+    if !stands(Standing::Running, standings, me) {
+        return refused(Answer::WrongStanding, records);
+    }
+    let client = records.client;
+    if !client.is_idle() {
+        return refused(Answer::WrongMoment, records);
+    }
+    let held = cell_at(&block.cells, me, k);
+    let Cell::Holds(s) = held else {
+        return refused(Answer::WrongCell, records);
+    };
+    opened(Kind::Release, k, s, records)
+}

@@ -1,0 +1,16 @@
+-- `standing_calls::rescuer_fails` meets its contract: what it returns computes to the definition.
+-- Assumes nothing.
+use Rattle.calls.specs.Calls.{plainCall, checks, effect}
+use borrow.Author.Needs.{needs}
+use Rattle.standing_calls.proofs.rescuer_fails.Statement.{statement}
+use Rattle.standing_calls.proofs.rescuer_fails.Tie as tie
+
+turn-requires : tie.Need-turn-requires
+turn-requires c κs = search needs
+
+returns : tie.Need-returns
+unfolding plainCall checks effect
+returns c = c .turn .ensures
+
+pub rescuer-fails-spec : {M : Type 1} → statement M
+rescuer-fails-spec = tie.close (tie.spec turn-requires returns)

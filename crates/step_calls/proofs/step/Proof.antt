@@ -1,0 +1,44 @@
+-- `step_calls::step` meets its contract: at each `return` the checks that led there say which was the first not to pass, or that all passed.
+-- Assumes nothing.
+use Rattle.calls.specs.Calls.{plainCall, checks, effect}
+use mathlib.Core.Path.{sym, _∙_}
+use Rattle.numbers.proofs.Checked.{client-known, client-large}
+use borrow.Author.Needs.{needs}
+use Rattle.step_calls.proofs.step.Statement.{statement}
+use Rattle.step_calls.proofs.step.Tie as tie
+
+checked-requires : tie.Need-checked-requires
+checked-requires c κs = search needs
+
+enum-known-me : tie.Need-enum-known-me
+enum-known-me c = search needs
+
+enum-told : tie.Need-enum-told
+enum-told c = search needs
+
+refused-requires : tie.Need-refused-requires
+refused-requires c κs = search needs
+
+returns : tie.Need-returns
+unfolding plainCall checks effect
+returns c = c .refused .ensures ∙ rw (client-large (c .before .before .before .before .args .c) (sym (c .before .before .before .checked .ensures) ∙ c .before .enum-told .given .1))
+
+step-known-requires : tie.Need-step-known-requires
+step-known-requires c κs = search needs
+
+returns-2 : tie.Need-returns-2
+unfolding plainCall checks effect
+returns-2 c = let p = client-known (c .before .before .before .before .before .args .c) _ (sym (c .before .before .before .before .checked .ensures) ∙ c .before .before .me .given .1) in
+    c .step-known .ensures ∙ rw (p .passed, ← (p .same))
+
+pub step-spec : {M : Type 1} → statement M
+step-spec =
+    tie.close
+    (tie.spec
+    checked-requires
+    enum-known-me
+    enum-told
+    refused-requires
+    returns
+    step-known-requires
+    returns-2)
