@@ -1,5 +1,5 @@
-// The era matrix: eight rows of eight, an array of arrays by value. Entry (i, i) is client i's own era, entry (i, j)
-// the largest era of j that i has seen.
+// The era matrix: eight rows of eight, an array of arrays by value, kept beside the block. Entry (i, i) is client i's
+// own era, entry (i, j) the largest era of j that i has seen. A read is lent the matrix, and copies the one row.
 use numbers::Client;
 use numbers::Era;
 ghost use mathlib.Core.Path.{_≡_};
@@ -23,11 +23,11 @@ pub fn fresh_eras() -> [[u32; 8]; 8]
 }
 
 // The largest era of `of` that `by` has seen.
-pub fn seen_era(eras: [[u32; 8]; 8], by: Client, of: Client) -> Era
-    ensures { λ r. ⌜ r ≡ seenEra eras (by .0) (of .0) ⌝ }
+pub fn seen_era(eras: &[[u32; 8]], by: Client, of: Client) -> Era
+    ensures { λ r. ⌜ r ≡ seenEra (now (eras .entry)) (by .0) (of .0) ⌝ }
 {
     let at = by.0 as usize;
-    if at < 8 {
+    if at < eras.len() {
         let row = eras[at];
         Era(entry_at(row, of))
     } else {
@@ -44,8 +44,8 @@ fn entry_at(row: [u32; 8], of: Client) -> u32
 }
 
 // A client's own era.
-pub fn own_era(eras: [[u32; 8]; 8], client: Client) -> Era
-    ensures { λ r. ⌜ r ≡ ownEra eras (client .0) ⌝ }
+pub fn own_era(eras: &[[u32; 8]], client: Client) -> Era
+    ensures { λ r. ⌜ r ≡ ownEra (now (eras .entry)) (client .0) ⌝ }
 {
     seen_era(eras, client, client)
 }

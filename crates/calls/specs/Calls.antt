@@ -10,7 +10,9 @@ use Rattle.block.specs.declared.Block.{Block}
 use Rattle.block.specs.declared.Cell.{Cell}
 use Rattle.block.specs.declared.Kind.{Kind}
 use Rattle.block.specs.declared.Operation.{Operation}
+use Rattle.block.specs.declared.LogWord.{LogWord}
 use Rattle.block.specs.declared.Standing.{Standing}
+use Rattle.block.specs.declared.StandingWord.{StandingWord}
 use Rattle.block.specs.declared.store.Store.{Store}
 use Rattle.block.specs.Block.{cellAt, logAt}
 use Rattle.block.specs.Store.{byteOf}
@@ -39,35 +41,43 @@ abbrev pub accepted : Records → Store → Outcome
 accepted next store = record { answer = Answer.Accepted; records = next; store = store }
 
 -- R2.4: leave, of a client that there is
-abbrev pub asksToLeave : ℕ → Block → Records → List Check
-asksToLeave c b given = stands Standing.Running b c ∷ nothingUnderWay given ∷ noEntries b c ∷ []
+abbrev pub asksToLeave : ℕ → List StandingWord → List ℕ → Records → List Check
+asksToLeave c standings bytes given =
+    stands Standing.Running standings c ∷ nothingUnderWay given ∷ noEntries bytes c ∷ []
 
 -- R2.5, R2.6: lease and attach, the same for both, once the numbers are known
-abbrev pub asksToOpen : ℕ → ℕ → Block → List (List ℕ) → Records → List Check
-asksToOpen c k b eras given =
-    stands Standing.Running b c ∷ nothingUnderWay given ∷ cellEmpty b c k ∷ belowEraStop eras c ∷ []
+abbrev pub asksToOpen : ℕ → ℕ → List StandingWord → List ℕ → List (List ℕ) → Records → List Check
+asksToOpen c k standings bytes eras given =
+    stands Standing.Running standings c
+    ∷ nothingUnderWay given
+    ∷ cellEmpty bytes c k
+    ∷ belowEraStop eras c
+    ∷ []
 
 -- R2.7: release, once the numbers are known
-abbrev pub asksToRelease : ℕ → ℕ → Block → Records → List Check
-asksToRelease c k b given = stands Standing.Running b c ∷ nothingUnderWay given ∷ cellFull b c k ∷ []
+abbrev pub asksToRelease : ℕ → ℕ → List StandingWord → List ℕ → Records → List Check
+asksToRelease c k standings bytes given =
+    stands Standing.Running standings c ∷ nothingUnderWay given ∷ cellFull bytes c k ∷ []
 
 -- R2.8: step, of a client that there is
-abbrev pub asksToStep : ℕ → Block → Records → List Check
-asksToStep c b given = stands Standing.Running b c ∷ somethingUnderWay given ∷ []
+abbrev pub asksToStep : ℕ → List StandingWord → Records → List Check
+asksToStep c standings given = stands Standing.Running standings c ∷ somethingUnderWay given ∷ []
 
 -- R2.3 to R2.13: the checks of each call, in their order
 unfoldable pub checks : Call → Block → List (List ℕ) → Records → List Check
-checks (Call.Join c) b eras given = aClient c ∷ stands Standing.Absent b c ∷ []
-checks (Call.Leave c) b eras given = aClient c ∷ asksToLeave c b given
-checks (Call.Lease c k s) b eras given = aClient c ∷ aCell k ∷ aSlot s ∷ asksToOpen c k b eras given
-checks (Call.Attach c k s) b eras given = aClient c ∷ aCell k ∷ aSlot s ∷ asksToOpen c k b eras given
-checks (Call.Release c k) b eras given = aClient c ∷ aCell k ∷ asksToRelease c k b given
-checks (Call.Step c) b eras given = aClient c ∷ asksToStep c b given
-checks (Call.Fail c) b eras given = aClient c ∷ stands Standing.Running b c ∷ []
-checks (Call.TakeOver c) b eras given = aClient c ∷ stands Standing.Failed b c ∷ []
-checks (Call.RescueStep c) b eras given = aClient c ∷ stands Standing.InRescue b c ∷ []
-checks (Call.RescuerFails c) b eras given = aClient c ∷ stands Standing.InRescue b c ∷ []
-checks (Call.LookUp c k) b eras given = aClient c ∷ aCell k ∷ stands Standing.Running b c ∷ []
+checks (Call.Join c) b eras given = aClient c ∷ stands Standing.Absent (b .standings) c ∷ []
+checks (Call.Leave c) b eras given = aClient c ∷ asksToLeave c (b .standings) (b .cells) given
+checks (Call.Lease c k s) b eras given =
+    aClient c ∷ aCell k ∷ aSlot s ∷ asksToOpen c k (b .standings) (b .cells) eras given
+checks (Call.Attach c k s) b eras given =
+    aClient c ∷ aCell k ∷ aSlot s ∷ asksToOpen c k (b .standings) (b .cells) eras given
+checks (Call.Release c k) b eras given = aClient c ∷ aCell k ∷ asksToRelease c k (b .standings) (b .cells) given
+checks (Call.Step c) b eras given = aClient c ∷ asksToStep c (b .standings) given
+checks (Call.Fail c) b eras given = aClient c ∷ stands Standing.Running (b .standings) c ∷ []
+checks (Call.TakeOver c) b eras given = aClient c ∷ stands Standing.Failed (b .standings) c ∷ []
+checks (Call.RescueStep c) b eras given = aClient c ∷ stands Standing.InRescue (b .standings) c ∷ []
+checks (Call.RescuerFails c) b eras given = aClient c ∷ stands Standing.InRescue (b .standings) c ∷ []
+checks (Call.LookUp c k) b eras given = aClient c ∷ aCell k ∷ stands Standing.Running (b .standings) c ∷ []
 
 -- R2.16: calls 3 to 5 only open an operation, at its load
 abbrev pub opened : Kind → ℕ → Slot → Records → Outcome
@@ -132,6 +142,11 @@ effect (Call.RescueStep c) b eras given =
     ofRescuer (rescueOf (client c) (b .headers) (b .cells) (logAt (b .logs) c) eras (given .rescuer .step)) given
 effect (Call.RescuerFails c) b eras given = turned c Standing.Failed
 effect (Call.LookUp c k) b eras given = unchanged (looked (given .client .stage) (cellAt (b .cells) c k) k) given
+
+-- the block whose words a call is lent
+abbrev pub lent : List ℕ → List ℕ → List LogWord → List StandingWord → Block
+lent headers bytes logs standings =
+    record { headers = headers; cells = bytes; logs = logs; standings = standings }
 
 -- R2.1: a call of a block and records that are within their limits
 unfoldable pub plainCall : Call → Block → List (List ℕ) → Records → Outcome

@@ -6,9 +6,9 @@ use mathlib.Core.List.{List, [], _∷_}
 use lib.Dec.{ltb, eqb}
 use Rattle.numbers.specs.Sizes.{clients, slots, cells, eraStop}
 use Rattle.numbers.specs.declared.answers.Answer.{Answer}
-use Rattle.block.specs.declared.Block.{Block}
 use Rattle.block.specs.declared.Cell.{Cell}
 use Rattle.block.specs.declared.Standing.{Standing}
+use Rattle.block.specs.declared.StandingWord.{StandingWord}
 use Rattle.block.specs.declared.store.Store.{Store}
 use Rattle.block.specs.Block.{cellAt, standingAt}
 use Rattle.block.specs.Matrix.{ownEra}
@@ -58,9 +58,9 @@ abbrev pub sameStanding : Standing → Standing → Bool
 sameStanding asked found = eqb (standingCode found) (standingCode asked)
 
 -- R2.14, 4: client c's standing is the one asked for
-abbrev pub stands : Standing → Block → ℕ → Check
-stands asked b c =
-    record { passes = sameStanding asked (standingAt (b .standings) c); refusal = Answer.WrongStanding }
+abbrev pub stands : Standing → List StandingWord → ℕ → Check
+stands asked standings c =
+    record { passes = sameStanding asked (standingAt standings c); refusal = Answer.WrongStanding }
 
 -- R2.14, 5: nothing, or something, is under way
 abbrev pub nothingUnderWay : Records → Check
@@ -74,11 +74,11 @@ isEmpty Cell.Empty = true
 isEmpty (Cell.Holds s) = false
 
 -- R2.14, 6: cell k of client c is empty, or full
-abbrev pub cellEmpty : Block → ℕ → ℕ → Check
-cellEmpty b c k = record { passes = isEmpty (cellAt (b .cells) c k); refusal = Answer.WrongCell }
+abbrev pub cellEmpty : List ℕ → ℕ → ℕ → Check
+cellEmpty bytes c k = record { passes = isEmpty (cellAt bytes c k); refusal = Answer.WrongCell }
 
-abbrev pub cellFull : Block → ℕ → ℕ → Check
-cellFull b c k = record { passes = not (isEmpty (cellAt (b .cells) c k)); refusal = Answer.WrongCell }
+abbrev pub cellFull : List ℕ → ℕ → ℕ → Check
+cellFull bytes c k = record { passes = not (isEmpty (cellAt bytes c k)); refusal = Answer.WrongCell }
 
 -- R2.14, 9: client c's own era is below the era stop
 abbrev pub belowEraStop : List (List ℕ) → ℕ → Check
@@ -89,5 +89,5 @@ foundNothing Found.Nothing = true
 foundNothing (Found.At k s) = false
 
 -- R2.14, 10: no cell of client c holds a slot
-abbrev pub noEntries : Block → ℕ → Check
-noEntries b c = record { passes = foundNothing (lowestFull (b .cells) c); refusal = Answer.StillHolding }
+abbrev pub noEntries : List ℕ → ℕ → Check
+noEntries bytes c = record { passes = foundNothing (lowestFull bytes c); refusal = Answer.StillHolding }

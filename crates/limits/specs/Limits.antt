@@ -1,6 +1,6 @@
 -- The limits of given contents (R1.12): what a block, an era matrix and the records of a client may hold. That a kind
 -- or a standing is none of those named, that a stage is none its operation has, and that a rescuer keeps a log without
--- the words its step reads (R1.12 k, l, n, p) no value of these types can say.
+-- the words its step reads (R1.12 l, m, o, p) no value of these types can say.
 use Prim.Native.Nat.{ℕ}
 use mathlib.Core.Bool.{Bool, true, false, not, _&&_, _||_}
 use mathlib.Core.List.{List}

@@ -1,9 +1,9 @@
 // The call that only reads: which slot a cell shows.
-use block::Block;
 use block::Cell;
 use block::Kind;
 use block::Operation;
 use block::Standing;
+use block::StandingWord;
 use block::cell_at;
 use calls::Outcome;
 use calls::Records;
@@ -16,9 +16,11 @@ use numbers::ClientCheck;
 use numbers::answers::Answer;
 use numbers::checked_cell;
 use stages::Stage;
+ghost use mathlib.Core.List.{_∷_, []};
 ghost use mathlib.Core.Path.{_≡_};
-ghost use Rattle.calls.specs.declared.Call.{Call};
-ghost use Rattle.calls.specs.Calls.{plainCall, releaseOf, releasing, shown, looked};
+ghost use Rattle.block.specs.Block.{cellAt};
+ghost use Rattle.calls.specs.Checks.{aClient, aCell, stands, unchanged, afterChecks};
+ghost use Rattle.calls.specs.Calls.{releaseOf, releasing, shown, looked};
 
 // Whether an operation is a release of cell `k`.
 fn release_of(op: Operation, k: u8) -> bool
@@ -69,8 +71,14 @@ fn looked(stage: Stage, held: Cell, k: u8) -> Answer
 }
 
 // 11 look up: 200 + the slot in the cell, or 199 where it is empty or its release is under way.
-pub fn look_up(c: u64, cell: u64, block: Block, eras: [[u32; 8]; 8], records: Records) -> Outcome
-    ensures { λ r. ⌜ r ≡ plainCall (Call.LookUp c cell) block eras records ⌝ }
+pub fn look_up(
+    c: u64,
+    cell: u64,
+    standings: [StandingWord; 8],
+    cells: &[u8],
+    records: Records,
+) -> Outcome
+    ensures { λ r. ⌜ r ≡ afterChecks (aClient c ∷ aCell cell ∷ stands Standing.Running standings c ∷ []) records (unchanged (looked (records .client .stage) (cellAt (now (cells .entry)) c cell) cell) records) ⌝ }
 {
     let ClientCheck::Known(me) = Client::checked(c) else {
         return refused(Answer::NoSuchClient, records);
@@ -78,11 +86,10 @@ pub fn look_up(c: u64, cell: u64, block: Block, eras: [[u32; 8]; 8], records: Re
     let CellCheck::Known(k) = checked_cell(cell) else {
         return refused(Answer::NoSuchCell, records);
     };
-    let standings = block.standings;
     if !stands(Standing::Running, standings, me) {
         return refused(Answer::WrongStanding, records);
     }
     let client = records.client;
     let stage = client.stage;
-    unchanged(looked(stage, cell_at(&block.cells, me, k), k), records)
+    unchanged(looked(stage, cell_at(cells, me, k), k), records)
 }

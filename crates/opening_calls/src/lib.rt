@@ -1,9 +1,9 @@
-// The calls that open an operation, at its load: lease, attach, release.
-use block::Block;
+// The calls that open an operation, at its load: lease, attach, release. Each is a function of the words that it reads.
 use block::Cell;
 use block::Kind;
 use block::Operation;
 use block::Standing;
+use block::StandingWord;
 use block::cell_at;
 use block::matrix::own_era;
 use block::store::Store;
@@ -23,12 +23,11 @@ use rescue::RescuerRecord;
 use stages::ClientRecord;
 use stages::Stage;
 ghost use mathlib.Core.Path.{_≡_};
-ghost use Rattle.calls.specs.declared.Call.{Call};
 ghost use mathlib.Core.List.{_∷_};
 ghost use Rattle.block.specs.Block.{cellAt};
 ghost use Rattle.block.specs.Store.{byteOf};
 ghost use Rattle.calls.specs.Checks.{aClient, aCell, aSlot, isEmpty, afterChecks};
-ghost use Rattle.calls.specs.Calls.{plainCall, opened, asksToOpen, asksToRelease};
+ghost use Rattle.calls.specs.Calls.{opened, asksToOpen, asksToRelease};
 
 // The record of an operation just opened, beside the rescuer's as it was.
 fn opened(kind: Kind, cell: u8, slot: Slot, records: Records) -> Outcome
@@ -43,16 +42,17 @@ fn opened(kind: Kind, cell: u8, slot: Slot, records: Records) -> Outcome
 }
 
 // Lease and attach: the three numbers, then the rest.
-fn open(
+fn open<'a>(
     kind: Kind,
     c: u64,
     cell: u64,
     slot: u64,
-    block: Block,
-    eras: [[u32; 8]; 8],
+    standings: [StandingWord; 8],
+    cells: &'a [u8],
+    eras: &'a [[u32; 8]],
     records: Records,
 ) -> Outcome
-    ensures { λ r. ⌜ r ≡ afterChecks (aClient c ∷ aCell cell ∷ aSlot slot ∷ asksToOpen c cell block eras records) records (opened kind cell (record { 0 = slot }) records) ⌝ }
+    ensures { λ r. ⌜ r ≡ afterChecks (aClient c ∷ aCell cell ∷ aSlot slot ∷ asksToOpen c cell standings (now (cells .entry)) (now (eras .entry)) records) records (opened kind cell (record { 0 = slot }) records) ⌝ }
 {
     let ClientCheck::Known(me) = Client::checked(c) else {
         return refused(Answer::NoSuchClient, records);
@@ -63,22 +63,22 @@ fn open(
     let SlotCheck::Known(s) = Slot::checked(slot) else {
         return refused(Answer::NoSuchSlot, records);
     };
-    open_known(kind, me, k, s, block, eras, records)
+    open_known(kind, me, k, s, standings, cells, eras, records)
 }
 
 // Lease and attach, once the numbers are known.
-fn open_known(
+fn open_known<'a>(
     kind: Kind,
     me: Client,
     k: u8,
     s: Slot,
-    block: Block,
-    eras: [[u32; 8]; 8],
+    standings: [StandingWord; 8],
+    cells: &'a [u8],
+    eras: &'a [[u32; 8]],
     records: Records,
 ) -> Outcome
-    ensures { λ r. ⌜ r ≡ afterChecks (asksToOpen (me .0) k block eras records) records (opened kind k s records) ⌝ }
+    ensures { λ r. ⌜ r ≡ afterChecks (asksToOpen (me .0) k standings (now (cells .entry)) (now (eras .entry)) records) records (opened kind k s records) ⌝ }
 {
-    let standings = block.standings;
     if !stands(Standing::Running, standings, me) {
         return refused(Answer::WrongStanding, records);
     }
@@ -86,7 +86,7 @@ fn open_known(
     if !client.is_idle() {
         return refused(Answer::WrongMoment, records);
     }
-    if !is_empty(cell_at(&block.cells, me, k)) {
+    if !is_empty(cell_at(cells, me, k)) {
         return refused(Answer::WrongCell, records);
     }
     if 4294967200 <= own_era(eras, me).0 {
@@ -106,36 +106,44 @@ fn is_empty(held: Cell) -> bool
 }
 
 // 3 lease.
-pub fn lease(
+pub fn lease<'a>(
     c: u64,
     cell: u64,
     slot: u64,
-    block: Block,
-    eras: [[u32; 8]; 8],
+    standings: [StandingWord; 8],
+    cells: &'a [u8],
+    eras: &'a [[u32; 8]],
     records: Records,
 ) -> Outcome
-    ensures { λ r. ⌜ r ≡ plainCall (Call.Lease c cell slot) block eras records ⌝ }
+    ensures { λ r. ⌜ r ≡ afterChecks (aClient c ∷ aCell cell ∷ aSlot slot ∷ asksToOpen c cell standings (now (cells .entry)) (now (eras .entry)) records) records (opened Kind.Lease cell (record { 0 = slot }) records) ⌝ }
 {
-    open(Kind::Lease, c, cell, slot, block, eras, records)
+    open(Kind::Lease, c, cell, slot, standings, cells, eras, records)
 }
 
 // 4 attach.
-pub fn attach(
+pub fn attach<'a>(
     c: u64,
     cell: u64,
     slot: u64,
-    block: Block,
-    eras: [[u32; 8]; 8],
+    standings: [StandingWord; 8],
+    cells: &'a [u8],
+    eras: &'a [[u32; 8]],
     records: Records,
 ) -> Outcome
-    ensures { λ r. ⌜ r ≡ plainCall (Call.Attach c cell slot) block eras records ⌝ }
+    ensures { λ r. ⌜ r ≡ afterChecks (aClient c ∷ aCell cell ∷ aSlot slot ∷ asksToOpen c cell standings (now (cells .entry)) (now (eras .entry)) records) records (opened Kind.Attach cell (record { 0 = slot }) records) ⌝ }
 {
-    open(Kind::Attach, c, cell, slot, block, eras, records)
+    open(Kind::Attach, c, cell, slot, standings, cells, eras, records)
 }
 
 // 5 release: of the slot that the cell holds now.
-pub fn release(c: u64, cell: u64, block: Block, eras: [[u32; 8]; 8], records: Records) -> Outcome
-    ensures { λ r. ⌜ r ≡ plainCall (Call.Release c cell) block eras records ⌝ }
+pub fn release(
+    c: u64,
+    cell: u64,
+    standings: [StandingWord; 8],
+    cells: &[u8],
+    records: Records,
+) -> Outcome
+    ensures { λ r. ⌜ r ≡ afterChecks (aClient c ∷ aCell cell ∷ asksToRelease c cell standings (now (cells .entry)) records) records (opened Kind.Release cell (record { 0 = byteOf (cellAt (now (cells .entry)) c cell) }) records) ⌝ }
 {
     let ClientCheck::Known(me) = Client::checked(c) else {
         return refused(Answer::NoSuchClient, records);
@@ -143,14 +151,19 @@ pub fn release(c: u64, cell: u64, block: Block, eras: [[u32; 8]; 8], records: Re
     let CellCheck::Known(k) = checked_cell(cell) else {
         return refused(Answer::NoSuchCell, records);
     };
-    release_known(me, k, block, records)
+    release_known(me, k, standings, cells, records)
 }
 
 // Release, once the numbers are known.
-fn release_known(me: Client, k: u8, block: Block, records: Records) -> Outcome
-    ensures { λ r. ⌜ r ≡ afterChecks (asksToRelease (me .0) k block records) records (opened Kind.Release k (record { 0 = byteOf (cellAt (block .cells) (me .0) k) }) records) ⌝ }
+fn release_known(
+    me: Client,
+    k: u8,
+    standings: [StandingWord; 8],
+    cells: &[u8],
+    records: Records,
+) -> Outcome
+    ensures { λ r. ⌜ r ≡ afterChecks (asksToRelease (me .0) k standings (now (cells .entry)) records) records (opened Kind.Release k (record { 0 = byteOf (cellAt (now (cells .entry)) (me .0) k) }) records) ⌝ }
 {
-    let standings = block.standings;
     if !stands(Standing::Running, standings, me) {
         return refused(Answer::WrongStanding, records);
     }
@@ -158,7 +171,7 @@ fn release_known(me: Client, k: u8, block: Block, records: Records) -> Outcome
     if !client.is_idle() {
         return refused(Answer::WrongMoment, records);
     }
-    let held = cell_at(&block.cells, me, k);
+    let held = cell_at(cells, me, k);
     let Cell::Holds(s) = held else {
         return refused(Answer::WrongCell, records);
     };

@@ -57,9 +57,9 @@ impl RescuerRecord {
         headers: &'a [u64],
         cells: &'a [u8],
         log: Log,
-        eras: [[u32; 8]; 8],
+        eras: &'a [[u32; 8]],
     ) -> Rescued
-        ensures { λ r. ⌜ r ≡ rescueOf c (now (headers .entry)) (now (cells .entry)) log eras (self .step) ⌝ }
+        ensures { λ r. ⌜ r ≡ rescueOf c (now (headers .entry)) (now (cells .entry)) log (now (eras .entry)) (self .step) ⌝ }
     {
         let step = self.step;
         match step {

@@ -42,8 +42,8 @@ pub struct Stepped {
 
 impl ClientRecord {
     // One step of client `me`. With nothing under way it is refused.
-    pub fn step(self, me: Client, headers: &[u64], eras: [[u32; 8]; 8]) -> Stepped
-        ensures { λ r. ⌜ r ≡ stepOf me (now (headers .entry)) eras (self .stage) ⌝ }
+    pub fn step<'a>(self, me: Client, headers: &'a [u64], eras: &'a [[u32; 8]]) -> Stepped
+        ensures { λ r. ⌜ r ≡ stepOf me (now (headers .entry)) (now (eras .entry)) (self .stage) ⌝ }
     {
         let stage = self.stage;
         match stage {

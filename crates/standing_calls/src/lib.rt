@@ -1,6 +1,7 @@
-// The calls that change a client's standing and touch no other word: join, leave, fail, take over, rescuer fails.
-use block::Block;
+// The calls that change a client's standing and touch no other word: join, leave, fail, take over, rescuer fails. Each
+// is a function of the words that it reads.
 use block::Standing;
+use block::StandingWord;
 use block::store::Store;
 use calls::Outcome;
 use calls::Records;
@@ -13,11 +14,10 @@ use numbers::ClientCheck;
 use numbers::answers::Answer;
 use rescue::search::Found;
 use rescue::search::lowest_full;
-ghost use mathlib.Core.Path.{_≡_};
-ghost use Rattle.calls.specs.declared.Call.{Call};
-ghost use Rattle.calls.specs.Checks.{aClient, stands, foundNothing, afterChecks};
 ghost use mathlib.Core.List.{_∷_, []};
-ghost use Rattle.calls.specs.Calls.{plainCall, asksToLeave, accepted, turned};
+ghost use mathlib.Core.Path.{_≡_};
+ghost use Rattle.calls.specs.Checks.{aClient, stands, foundNothing, afterChecks};
+ghost use Rattle.calls.specs.Calls.{asksToLeave, client, accepted, turned};
 
 // Whether a search found nothing.
 fn found_nothing(found: Found) -> bool
@@ -30,13 +30,18 @@ fn found_nothing(found: Found) -> bool
 }
 
 // A client with the standing `from` gets the standing `to`; what was under way is forgotten.
-fn turn(c: u64, block: Block, records: Records, from: Standing, to: Standing) -> Outcome
-    ensures { λ r. ⌜ r ≡ afterChecks (aClient c ∷ stands from block c ∷ []) records (turned c to) ⌝ }
+fn turn(
+    c: u64,
+    standings: [StandingWord; 8],
+    records: Records,
+    from: Standing,
+    to: Standing,
+) -> Outcome
+    ensures { λ r. ⌜ r ≡ afterChecks (aClient c ∷ stands from standings c ∷ []) records (turned c to) ⌝ }
 {
     let ClientCheck::Known(me) = Client::checked(c) else {
         return refused(Answer::NoSuchClient, records);
     };
-    let standings = block.standings;
     if !stands(from, standings, me) {
         return refused(Answer::WrongStanding, records);
     }
@@ -44,27 +49,26 @@ fn turn(c: u64, block: Block, records: Records, from: Standing, to: Standing) ->
 }
 
 // 1 join: an absent client is running.
-pub fn join(c: u64, block: Block, eras: [[u32; 8]; 8], records: Records) -> Outcome
-    ensures { λ r. ⌜ r ≡ plainCall (Call.Join c) block eras records ⌝ }
+pub fn join(c: u64, standings: [StandingWord; 8], records: Records) -> Outcome
+    ensures { λ r. ⌜ r ≡ afterChecks (aClient c ∷ stands Standing.Absent standings c ∷ []) records (turned c Standing.Running) ⌝ }
 {
-    turn(c, block, records, Standing::Absent, Standing::Running)
+    turn(c, standings, records, Standing::Absent, Standing::Running)
 }
 
 // 2 leave: a running client with nothing under way and no entries is absent.
-pub fn leave(c: u64, block: Block, eras: [[u32; 8]; 8], records: Records) -> Outcome
-    ensures { λ r. ⌜ r ≡ plainCall (Call.Leave c) block eras records ⌝ }
+pub fn leave(c: u64, standings: [StandingWord; 8], cells: &[u8], records: Records) -> Outcome
+    ensures { λ r. ⌜ r ≡ afterChecks (aClient c ∷ asksToLeave c standings (now (cells .entry)) records) records (accepted records (Store.Standing (client c) Standing.Absent)) ⌝ }
 {
     let ClientCheck::Known(me) = Client::checked(c) else {
         return refused(Answer::NoSuchClient, records);
     };
-    leave_known(me, block, records)
+    leave_known(me, standings, cells, records)
 }
 
 // Leave, of a client that there is.
-fn leave_known(me: Client, block: Block, records: Records) -> Outcome
-    ensures { λ r. ⌜ r ≡ afterChecks (asksToLeave (me .0) block records) records (accepted records (Store.Standing me Standing.Absent)) ⌝ }
+fn leave_known(me: Client, standings: [StandingWord; 8], cells: &[u8], records: Records) -> Outcome
+    ensures { λ r. ⌜ r ≡ afterChecks (asksToLeave (me .0) standings (now (cells .entry)) records) records (accepted records (Store.Standing me Standing.Absent)) ⌝ }
 {
-    let standings = block.standings;
     if !stands(Standing::Running, standings, me) {
         return refused(Answer::WrongStanding, records);
     }
@@ -72,29 +76,29 @@ fn leave_known(me: Client, block: Block, records: Records) -> Outcome
     if !client.is_idle() {
         return refused(Answer::WrongMoment, records);
     }
-    if !found_nothing(lowest_full(&block.cells, me)) {
+    if !found_nothing(lowest_full(cells, me)) {
         return refused(Answer::StillHolding, records);
     }
     accepted(records, Store::Standing(me, Standing::Absent))
 }
 
 // 7 fail: a running client has failed; its private words are lost.
-pub fn fail(c: u64, block: Block, eras: [[u32; 8]; 8], records: Records) -> Outcome
-    ensures { λ r. ⌜ r ≡ plainCall (Call.Fail c) block eras records ⌝ }
+pub fn fail(c: u64, standings: [StandingWord; 8], records: Records) -> Outcome
+    ensures { λ r. ⌜ r ≡ afterChecks (aClient c ∷ stands Standing.Running standings c ∷ []) records (turned c Standing.Failed) ⌝ }
 {
-    turn(c, block, records, Standing::Running, Standing::Failed)
+    turn(c, standings, records, Standing::Running, Standing::Failed)
 }
 
 // 8 take over: a failed client is in rescue, with a rescuer that knows nothing yet.
-pub fn take_over(c: u64, block: Block, eras: [[u32; 8]; 8], records: Records) -> Outcome
-    ensures { λ r. ⌜ r ≡ plainCall (Call.TakeOver c) block eras records ⌝ }
+pub fn take_over(c: u64, standings: [StandingWord; 8], records: Records) -> Outcome
+    ensures { λ r. ⌜ r ≡ afterChecks (aClient c ∷ stands Standing.Failed standings c ∷ []) records (turned c Standing.InRescue) ⌝ }
 {
-    turn(c, block, records, Standing::Failed, Standing::InRescue)
+    turn(c, standings, records, Standing::Failed, Standing::InRescue)
 }
 
 // 10 rescuer fails: a client in rescue has failed again; the rescuer's private words are lost.
-pub fn rescuer_fails(c: u64, block: Block, eras: [[u32; 8]; 8], records: Records) -> Outcome
-    ensures { λ r. ⌜ r ≡ plainCall (Call.RescuerFails c) block eras records ⌝ }
+pub fn rescuer_fails(c: u64, standings: [StandingWord; 8], records: Records) -> Outcome
+    ensures { λ r. ⌜ r ≡ afterChecks (aClient c ∷ stands Standing.InRescue standings c ∷ []) records (turned c Standing.Failed) ⌝ }
 {
-    turn(c, block, records, Standing::InRescue, Standing::Failed)
+    turn(c, standings, records, Standing::InRescue, Standing::Failed)
 }

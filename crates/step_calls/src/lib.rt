@@ -1,6 +1,8 @@
-// The calls that take a step: of a running client's operation, or of the rescue of a failed one.
-use block::Block;
+// The calls that take a step: of a running client's operation, or of the rescue of a failed one. Each is a function of
+// the words that it reads.
+use block::LogWord;
 use block::Standing;
+use block::StandingWord;
 use block::log_at;
 use calls::Outcome;
 use calls::Records;
@@ -11,29 +13,40 @@ use numbers::ClientCheck;
 use numbers::answers::Answer;
 use rescue::Rescued;
 use stages::Stepped;
+ghost use mathlib.Core.List.{_∷_, []};
 ghost use mathlib.Core.Path.{_≡_};
-ghost use Rattle.calls.specs.declared.Call.{Call};
 ghost use Rattle.block.specs.Block.{logAt};
 ghost use Rattle.stages.specs.Stages.{stepOf};
 ghost use Rattle.rescue.specs.Rescue.{rescueOf};
-ghost use Rattle.calls.specs.Checks.{afterChecks};
-ghost use Rattle.calls.specs.Calls.{plainCall, asksToStep, ofClient, ofRescuer};
+ghost use Rattle.calls.specs.Checks.{aClient, stands, afterChecks};
+ghost use Rattle.calls.specs.Calls.{client, asksToStep, ofClient, ofRescuer};
 
 // 6 step: one stage of the operation that is under way.
-pub fn step(c: u64, block: Block, eras: [[u32; 8]; 8], records: Records) -> Outcome
-    ensures { λ r. ⌜ r ≡ plainCall (Call.Step c) block eras records ⌝ }
+pub fn step<'a>(
+    c: u64,
+    standings: [StandingWord; 8],
+    headers: &'a [u64],
+    eras: &'a [[u32; 8]],
+    records: Records,
+) -> Outcome
+    ensures { λ r. ⌜ r ≡ afterChecks (aClient c ∷ asksToStep c standings records) records (ofClient (stepOf (client c) (now (headers .entry)) (now (eras .entry)) (records .client .stage)) records) ⌝ }
 {
     let ClientCheck::Known(me) = Client::checked(c) else {
         return refused(Answer::NoSuchClient, records);
     };
-    step_known(me, block, eras, records)
+    step_known(me, standings, headers, eras, records)
 }
 
 // Step, of a client that there is.
-fn step_known(me: Client, block: Block, eras: [[u32; 8]; 8], records: Records) -> Outcome
-    ensures { λ r. ⌜ r ≡ afterChecks (asksToStep (me .0) block records) records (ofClient (stepOf me (block .headers) eras (records .client .stage)) records) ⌝ }
+fn step_known<'a>(
+    me: Client,
+    standings: [StandingWord; 8],
+    headers: &'a [u64],
+    eras: &'a [[u32; 8]],
+    records: Records,
+) -> Outcome
+    ensures { λ r. ⌜ r ≡ afterChecks (asksToStep (me .0) standings records) records (ofClient (stepOf me (now (headers .entry)) (now (eras .entry)) (records .client .stage)) records) ⌝ }
 {
-    let standings = block.standings;
     if !stands(Standing::Running, standings, me) {
         return refused(Answer::WrongStanding, records);
     }
@@ -41,7 +54,7 @@ fn step_known(me: Client, block: Block, eras: [[u32; 8]; 8], records: Records) -
     if client.is_idle() {
         return refused(Answer::WrongMoment, records);
     }
-    of_client(client.step(me, &block.headers, eras), records)
+    of_client(client.step(me, headers, eras), records)
 }
 
 // A client's step as the outcome of a call.
@@ -60,28 +73,26 @@ fn of_client(stepped: Stepped, records: Records) -> Outcome
 }
 
 // 9 rescue step: one step of the rescue.
-pub fn rescue_step(c: u64, block: Block, eras: [[u32; 8]; 8], records: Records) -> Outcome
-    ensures { λ r. ⌜ r ≡ plainCall (Call.RescueStep c) block eras records ⌝ }
+pub fn rescue_step<'a>(
+    c: u64,
+    standings: [StandingWord; 8],
+    headers: &'a [u64],
+    cells: &'a [u8],
+    logs: [LogWord; 8],
+    eras: &'a [[u32; 8]],
+    records: Records,
+) -> Outcome
+    ensures { λ r. ⌜ r ≡ afterChecks (aClient c ∷ stands Standing.InRescue standings c ∷ []) records (ofRescuer (rescueOf (client c) (now (headers .entry)) (now (cells .entry)) (logAt logs c) (now (eras .entry)) (records .rescuer .step)) records) ⌝ }
 {
     let ClientCheck::Known(me) = Client::checked(c) else {
         return refused(Answer::NoSuchClient, records);
     };
-    let standings = block.standings;
     if !stands(Standing::InRescue, standings, me) {
         return refused(Answer::WrongStanding, records);
     }
-    rescue_known(me, block, eras, records)
-}
-
-// A rescue step, of a client that is in rescue.
-fn rescue_known(me: Client, block: Block, eras: [[u32; 8]; 8], records: Records) -> Outcome
-    ensures { λ r. ⌜ r ≡ ofRescuer (rescueOf me (block .headers) (block .cells) (logAt (block .logs) (me .0)) eras (records .rescuer .step)) records ⌝ }
-{
-    let logs = block.logs;
-    let log = log_at(logs, me);
     let rescuer = records.rescuer;
     of_rescuer(
-        rescuer.step(me, &block.headers, &block.cells, log, eras),
+        rescuer.step(me, headers, cells, log_at(logs, me), eras),
         records,
     )
 }

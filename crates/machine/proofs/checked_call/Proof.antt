@@ -12,6 +12,9 @@ client-of-requires c κs = search needs
 within-requires : tie.Need-within-requires
 within-requires c κs = search needs
 
+slice-aggregate-plain-call : tie.Need-slice-aggregate-plain-call
+slice-aggregate-plain-call c = search needs
+
 plain-call-requires : tie.Need-plain-call-requires
 plain-call-requires c κs = search needs
 
@@ -20,7 +23,7 @@ refused-requires c κs = search needs
 
 returns : tie.Need-returns
 unfolding checkedCall
-returns c = c .plain-call .ensures ∙ rw (rw (c .before .before .before .client-of .ensures) at (sym (c .before .before .within .ensures) ∙ c .before .if1 .taken))
+returns c = c .plain-call .ensures ∙ rw (rw (c .before .before .before .before .before .before .before .before .before .before .before .client-of .ensures) at (sym (c .before .before .before .before .before .before .before .before .before .before .within .ensures) ∙ c .before .before .before .before .before .before .before .before .before .if1 .taken))
 
 returns-2 : tie.Need-returns-2
 unfolding checkedCall
@@ -32,6 +35,7 @@ checked-call-spec =
     (tie.spec
     client-of-requires
     within-requires
+    slice-aggregate-plain-call
     plain-call-requires
     refused-requires
     returns

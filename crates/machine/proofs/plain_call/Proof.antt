@@ -1,6 +1,7 @@
 -- `machine::plain_call` meets its contract: each arm is the definition at that constructor.
 -- Assumes nothing.
 use mathlib.Core.Path.{sym, _∙_}
+use Rattle.calls.specs.Calls.{plainCall, checks, effect}
 use borrow.Author.Needs.{needs}
 use Rattle.machine.proofs.plain_call.Statement.{statement}
 use Rattle.machine.proofs.plain_call.Tie as tie
@@ -72,36 +73,47 @@ look-up-requires : tie.Need-look-up-requires
 look-up-requires c κs = search needs
 
 returns : tie.Need-returns
+unfolding plainCall checks effect
 returns c = c .join .ensures ∙ rw (c .before .before .call .given .1)
 
 returns-2 : tie.Need-returns-2
+unfolding plainCall checks effect
 returns-2 c = c .leave .ensures ∙ rw (c .before .before .call2 .given .1)
 
 returns-3 : tie.Need-returns-3
+unfolding plainCall checks effect
 returns-3 c = c .lease .ensures ∙ rw (c .before .before .call3 .given .1)
 
 returns-4 : tie.Need-returns-4
+unfolding plainCall checks effect
 returns-4 c = c .attach .ensures ∙ rw (c .before .before .call4 .given .1)
 
 returns-5 : tie.Need-returns-5
+unfolding plainCall checks effect
 returns-5 c = c .release .ensures ∙ rw (c .before .before .call5 .given .1)
 
 returns-6 : tie.Need-returns-6
+unfolding plainCall checks effect
 returns-6 c = c .step .ensures ∙ rw (c .before .before .call6 .given .1)
 
 returns-7 : tie.Need-returns-7
+unfolding plainCall checks effect
 returns-7 c = c .fail .ensures ∙ rw (c .before .before .call7 .given .1)
 
 returns-8 : tie.Need-returns-8
+unfolding plainCall checks effect
 returns-8 c = c .take-over .ensures ∙ rw (c .before .before .call8 .given .1)
 
 returns-9 : tie.Need-returns-9
+unfolding plainCall checks effect
 returns-9 c = c .rescue-step .ensures ∙ rw (c .before .before .call9 .given .1)
 
 returns-10 : tie.Need-returns-10
+unfolding plainCall checks effect
 returns-10 c = c .rescuer-fails .ensures ∙ rw (c .before .before .call10 .given .1)
 
 returns-11 : tie.Need-returns-11
+unfolding plainCall checks effect
 returns-11 c = c .look-up .ensures ∙ rw (c .before .before .call11 .given .1)
 
 pub plain-call-spec : {M : Type 1} → statement M

@@ -21,7 +21,7 @@ refused-requires : tie.Need-refused-requires
 refused-requires c κs = search needs
 
 returns : tie.Need-returns
-returns c = c .refused .ensures ∙ rw (client-large (c .before .before .before .before .args .c) (sym (c .before .before .before .checked .ensures) ∙ c .before .enum-told .given .1))
+returns c = c .refused .ensures ∙ rw (client-large (c .before .before .before .before .before .args .c) (sym (c .before .before .before .checked .ensures) ∙ c .before .enum-told .given .1))
 
 checked-cell-requires : tie.Need-checked-cell-requires
 checked-cell-requires c κs = search needs
@@ -36,8 +36,8 @@ refused-requires-2 : tie.Need-refused-requires-2
 refused-requires-2 c κs = search needs
 
 returns-2 : tie.Need-returns-2
-returns-2 c = let p = client-known (c .before .before .before .before .before .before .before .before .args .c) _ (sym (c .before .before .before .before .before .before .before .checked .ensures) ∙ c .before .before .before .before .before .me .given .1) in
-    c .refused2 .ensures ∙ rw (p .passed, cell-large (c .before .before .before .before .before .before .before .before .args .cell) (sym (c .before .before .before .checked-cell .ensures) ∙ c .before .enum-told2 .given .1))
+returns-2 c = let p = client-known (c .before .before .before .before .before .before .before .before .before .args .c) _ (sym (c .before .before .before .before .before .before .before .checked .ensures) ∙ c .before .before .before .before .before .me .given .1) in
+    c .refused2 .ensures ∙ rw (p .passed, cell-large (c .before .before .before .before .before .before .before .before .before .args .cell) (sym (c .before .before .before .checked-cell .ensures) ∙ c .before .enum-told2 .given .1))
 
 checked-requires-2 : tie.Need-checked-requires-2
 checked-requires-2 c κs = search needs
@@ -52,17 +52,17 @@ refused-requires-3 : tie.Need-refused-requires-3
 refused-requires-3 c κs = search needs
 
 returns-3 : tie.Need-returns-3
-returns-3 c = let p = client-known (c .before .before .before .before .before .before .before .before .before .before .before .before .args .c) _ (sym (c .before .before .before .before .before .before .before .before .before .before .before .checked .ensures) ∙ c .before .before .before .before .before .before .before .before .before .me .given .1) in
-    let q = cell-known (c .before .before .before .before .before .before .before .before .before .before .before .before .args .cell) _ (sym (c .before .before .before .before .before .before .before .checked-cell .ensures) ∙ c .before .before .before .before .before .k .given .1) in
-    c .refused3 .ensures ∙ rw (p .passed, q .passed, slot-large (c .before .before .before .before .before .before .before .before .before .before .before .before .args .slot) (sym (c .before .before .before .checked2 .ensures) ∙ c .before .enum-told3 .given .1))
+returns-3 c = let p = client-known (c .before .before .before .before .before .before .before .before .before .before .before .before .before .args .c) _ (sym (c .before .before .before .before .before .before .before .before .before .before .before .checked .ensures) ∙ c .before .before .before .before .before .before .before .before .before .me .given .1) in
+    let q = cell-known (c .before .before .before .before .before .before .before .before .before .before .before .before .before .args .cell) _ (sym (c .before .before .before .before .before .before .before .checked-cell .ensures) ∙ c .before .before .before .before .before .k .given .1) in
+    c .refused3 .ensures ∙ rw (p .passed, q .passed, slot-large (c .before .before .before .before .before .before .before .before .before .before .before .before .before .args .slot) (sym (c .before .before .before .checked2 .ensures) ∙ c .before .enum-told3 .given .1))
 
 open-known-requires : tie.Need-open-known-requires
 open-known-requires c κs = search needs
 
 returns-4 : tie.Need-returns-4
-returns-4 c = let p = client-known (c .before .before .before .before .before .before .before .before .before .before .before .before .before .args .c) _ (sym (c .before .before .before .before .before .before .before .before .before .before .before .before .checked .ensures) ∙ c .before .before .before .before .before .before .before .before .before .before .me .given .1) in
-    let q = cell-known (c .before .before .before .before .before .before .before .before .before .before .before .before .before .args .cell) _ (sym (c .before .before .before .before .before .before .before .before .checked-cell .ensures) ∙ c .before .before .before .before .before .before .k .given .1) in
-    let s = slot-known (c .before .before .before .before .before .before .before .before .before .before .before .before .before .args .slot) _ (sym (c .before .before .before .before .checked2 .ensures) ∙ c .before .before .s .given .1) in
+returns-4 c = let p = client-known (c .before .before .before .before .before .before .before .before .before .before .before .before .before .before .args .c) _ (sym (c .before .before .before .before .before .before .before .before .before .before .before .before .checked .ensures) ∙ c .before .before .before .before .before .before .before .before .before .before .me .given .1) in
+    let q = cell-known (c .before .before .before .before .before .before .before .before .before .before .before .before .before .before .args .cell) _ (sym (c .before .before .before .before .before .before .before .before .checked-cell .ensures) ∙ c .before .before .before .before .before .before .k .given .1) in
+    let s = slot-known (c .before .before .before .before .before .before .before .before .before .before .before .before .before .before .args .slot) _ (sym (c .before .before .before .before .checked2 .ensures) ∙ c .before .before .s .given .1) in
     c .open-known .ensures ∙ rw (← (p .same), ← (q .same), ← (s .same), p .passed, q .passed, s .passed)
 
 pub open-spec : {M : Type 1} → statement M

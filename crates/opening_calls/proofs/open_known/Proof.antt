@@ -37,8 +37,8 @@ refused-requires-3 c κs = search needs
 returns-3 : tie.Need-returns-3
 returns-3 c = c .refused3 .ensures
     ∙ rw (
-      held (c .before .before .before .before .before .before .before .before .before .before .before .stands .ensures) (c .before .before .before .before .before .before .before .before .before .before .if1 .left),
-      held (c .before .before .before .before .before .before .before .before .is-idle .ensures) (c .before .before .before .before .before .before .before .if2 .left),
+      held (c .before .before .before .before .before .before .before .before .stands .ensures) (c .before .before .before .before .before .before .before .if1 .left),
+      held (c .before .before .before .before .before .is-idle .ensures) (c .before .before .before .before .if2 .left),
       rw (c .before .before .before .cell-at .ensures) at (lost (c .before .before .is-empty .ensures) (c .before .if3 .taken)),
     )
 
@@ -51,8 +51,8 @@ refused-requires-4 c κs = search needs
 returns-4 : tie.Need-returns-4
 returns-4 c = c .refused4 .ensures
     ∙ rw (
-      held (c .before .before .before .before .before .before .before .before .before .before .before .before .before .before .stands .ensures) (c .before .before .before .before .before .before .before .before .before .before .before .before .before .if1 .left),
-      held (c .before .before .before .before .before .before .before .before .before .before .before .is-idle .ensures) (c .before .before .before .before .before .before .before .before .before .before .if2 .left),
+      held (c .before .before .before .before .before .before .before .before .before .before .before .stands .ensures) (c .before .before .before .before .before .before .before .before .before .before .if1 .left),
+      held (c .before .before .before .before .before .before .before .before .is-idle .ensures) (c .before .before .before .before .before .before .before .if2 .left),
       rw (c .before .before .before .before .before .before .cell-at .ensures) at (held (c .before .before .before .before .before .is-empty .ensures) (c .before .before .before .before .if3 .left)),
       le-ltb _ _ (rw (c .before .before .before .own-era .ensures) at (c .before .if4 .taken)),
     )
@@ -63,8 +63,8 @@ opened-requires c κs = search needs
 returns-5 : tie.Need-returns-5
 returns-5 c = c .opened .ensures
     ∙ rw (
-      held (c .before .before .before .before .before .before .before .before .before .before .before .before .before .before .stands .ensures) (c .before .before .before .before .before .before .before .before .before .before .before .before .before .if1 .left),
-      held (c .before .before .before .before .before .before .before .before .before .before .before .is-idle .ensures) (c .before .before .before .before .before .before .before .before .before .before .if2 .left),
+      held (c .before .before .before .before .before .before .before .before .before .before .before .stands .ensures) (c .before .before .before .before .before .before .before .before .before .before .if1 .left),
+      held (c .before .before .before .before .before .before .before .before .is-idle .ensures) (c .before .before .before .before .before .before .before .if2 .left),
       rw (c .before .before .before .before .before .before .cell-at .ensures) at (held (c .before .before .before .before .before .is-empty .ensures) (c .before .before .before .before .if3 .left)),
       lt-ltb _ _ (rw (c .before .before .before .own-era .ensures) at (c .before .if4 .left)),
     )

@@ -39,8 +39,8 @@ refused-requires-3 c κs = search needs
 returns-3 : tie.Need-returns-3
 returns-3 c = c .refused3 .ensures
     ∙ rw (
-      held (c .before .before .before .before .before .before .before .before .before .before .before .stands .ensures) (c .before .before .before .before .before .before .before .before .before .before .if1 .left),
-      held (c .before .before .before .before .before .before .before .before .is-idle .ensures) (c .before .before .before .before .before .before .before .if2 .left),
+      held (c .before .before .before .before .before .before .before .before .stands .ensures) (c .before .before .before .before .before .before .before .if1 .left),
+      held (c .before .before .before .before .before .is-idle .ensures) (c .before .before .before .before .if2 .left),
       sym (c .before .before .before .cell-at .ensures) ∙ c .before .enum-told .given .1,
     )
 
@@ -50,8 +50,8 @@ opened-requires c κs = search needs
 returns-4 : tie.Need-returns-4
 returns-4 c = c .opened .ensures
     ∙ rw (
-      held (c .before .before .before .before .before .before .before .before .before .before .before .before .stands .ensures) (c .before .before .before .before .before .before .before .before .before .before .before .if1 .left),
-      held (c .before .before .before .before .before .before .before .before .before .is-idle .ensures) (c .before .before .before .before .before .before .before .before .if2 .left),
+      held (c .before .before .before .before .before .before .before .before .before .stands .ensures) (c .before .before .before .before .before .before .before .before .if1 .left),
+      held (c .before .before .before .before .before .before .is-idle .ensures) (c .before .before .before .before .before .if2 .left),
       sym (c .before .before .before .before .cell-at .ensures) ∙ c .before .before .held .given .1,
     )
 

@@ -36,8 +36,8 @@ refused-requires-3 c κs = search needs
 returns-3 : tie.Need-returns-3
 returns-3 c = c .refused3 .ensures
     ∙ rw (
-      held (c .before .before .before .before .before .before .before .before .before .before .before .stands .ensures) (c .before .before .before .before .before .before .before .before .before .before .if1 .left),
-      held (c .before .before .before .before .before .before .before .before .is-idle .ensures) (c .before .before .before .before .before .before .before .if2 .left),
+      held (c .before .before .before .before .before .before .before .before .stands .ensures) (c .before .before .before .before .before .before .before .if1 .left),
+      held (c .before .before .before .before .before .is-idle .ensures) (c .before .before .before .before .if2 .left),
       rw (c .before .before .before .lowest-full .ensures) at (lost (c .before .before .found-nothing .ensures) (c .before .if3 .taken)),
     )
 
@@ -47,8 +47,8 @@ accepted-requires c κs = search needs
 returns-4 : tie.Need-returns-4
 returns-4 c = c .accepted .ensures
     ∙ rw (
-      held (c .before .before .before .before .before .before .before .before .before .before .before .stands .ensures) (c .before .before .before .before .before .before .before .before .before .before .if1 .left),
-      held (c .before .before .before .before .before .before .before .before .is-idle .ensures) (c .before .before .before .before .before .before .before .if2 .left),
+      held (c .before .before .before .before .before .before .before .before .stands .ensures) (c .before .before .before .before .before .before .before .if1 .left),
+      held (c .before .before .before .before .before .is-idle .ensures) (c .before .before .before .before .if2 .left),
       rw (c .before .before .before .lowest-full .ensures) at (held (c .before .before .found-nothing .ensures) (c .before .if3 .left)),
     )
 

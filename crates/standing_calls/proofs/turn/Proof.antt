@@ -29,7 +29,7 @@ refused-requires-2 : tie.Need-refused-requires-2
 refused-requires-2 c κs = search needs
 
 returns-2 : tie.Need-returns-2
-returns-2 c = let p = client-known (c .before .before .before .before .before .before .before .before .args .c) _ (sym (c .before .before .before .before .before .before .before .checked .ensures) ∙ c .before .before .before .before .before .me .given .1) in
+returns-2 c = let p = client-known (c .before .before .before .before .before .before .before .args .c) _ (sym (c .before .before .before .before .before .before .checked .ensures) ∙ c .before .before .before .before .me .given .1) in
     c .refused2 .ensures ∙ rw (p .passed, rw (← (p .same)) at (lost (c .before .before .stands .ensures) (c .before .if1 .taken)))
 
 nothing-requires : tie.Need-nothing-requires
@@ -39,7 +39,7 @@ accepted-requires : tie.Need-accepted-requires
 accepted-requires c κs = search needs
 
 returns-3 : tie.Need-returns-3
-returns-3 c = let p = client-known (c .before .before .before .before .before .before .before .before .before .args .c) _ (sym (c .before .before .before .before .before .before .before .before .checked .ensures) ∙ c .before .before .before .before .before .before .me .given .1) in
+returns-3 c = let p = client-known (c .before .before .before .before .before .before .before .before .args .c) _ (sym (c .before .before .before .before .before .before .before .checked .ensures) ∙ c .before .before .before .before .before .me .given .1) in
     c .accepted .ensures ∙ rw (p .passed, rw (← (p .same)) at (held (c .before .before .before .stands .ensures) (c .before .before .if1 .left)), c .before .nothing .ensures, ← (p .same))
 
 pub turn-spec : {M : Type 1} → statement M

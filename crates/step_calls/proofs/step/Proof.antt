@@ -1,6 +1,5 @@
 -- `step_calls::step` meets its contract: at each `return` the checks that led there say which was the first not to pass, or that all passed.
 -- Assumes nothing.
-use Rattle.calls.specs.Calls.{plainCall, checks, effect}
 use mathlib.Core.Path.{sym, _∙_}
 use Rattle.numbers.proofs.Checked.{client-known, client-large}
 use borrow.Author.Needs.{needs}
@@ -20,16 +19,14 @@ refused-requires : tie.Need-refused-requires
 refused-requires c κs = search needs
 
 returns : tie.Need-returns
-unfolding plainCall checks effect
-returns c = c .refused .ensures ∙ rw (client-large (c .before .before .before .before .args .c) (sym (c .before .before .before .checked .ensures) ∙ c .before .enum-told .given .1))
+returns c = c .refused .ensures ∙ rw (client-large (c .before .before .before .before .before .args .c) (sym (c .before .before .before .checked .ensures) ∙ c .before .enum-told .given .1))
 
 step-known-requires : tie.Need-step-known-requires
 step-known-requires c κs = search needs
 
 returns-2 : tie.Need-returns-2
-unfolding plainCall checks effect
-returns-2 c = let p = client-known (c .before .before .before .before .before .args .c) _ (sym (c .before .before .before .before .checked .ensures) ∙ c .before .before .me .given .1) in
-    c .step-known .ensures ∙ rw (p .passed, ← (p .same))
+returns-2 c = let p = client-known (c .before .before .before .before .before .before .args .c) _ (sym (c .before .before .before .before .checked .ensures) ∙ c .before .before .me .given .1) in
+    c .step-known .ensures ∙ rw (← (p .same), p .passed)
 
 pub step-spec : {M : Type 1} → statement M
 step-spec =

@@ -31,7 +31,7 @@ of-client-requires : tie.Need-of-client-requires
 of-client-requires c κs = search needs
 
 returns-3 : tie.Need-returns-3
-returns-3 c = c .of-client .ensures ∙ rw (held (c .before .before .before .before .before .before .before .before .before .stands .ensures) (c .before .before .before .before .before .before .before .before .if1 .left), sym (c .before .before .before .before .before .before .is-idle .ensures) ∙ c .before .before .before .before .before .if2 .left, c .before .step .ensures)
+returns-3 c = c .of-client .ensures ∙ rw (held (c .before .before .before .before .before .before .stands .ensures) (c .before .before .before .before .before .if1 .left), sym (c .before .before .before .is-idle .ensures) ∙ c .before .before .if2 .left, c .before .step .ensures)
 
 pub step-known-spec : {M : Type 1} → statement M
 step-known-spec =
