@@ -1,4 +1,4 @@
--- The one word that a step writes (R3.0), and the block and the matrix after it.
+-- The one word that a step or a call writes (R3.0, R2.16), and the block and the matrix after it.
 use Prim.Native.Nat.{ℕ}
 use mathlib.Core.Bool.{cond}
 use mathlib.Core.List.{List, []}

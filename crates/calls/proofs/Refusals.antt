@@ -5,7 +5,7 @@ use Prim.Native.Nat.{ℕ}
 use mathlib.Core.Bool.{Bool, true, false, cond, false≢true}
 use mathlib.Core.List.{List, [], _∷_}
 use mathlib.Core.Path.{_≡_, refl, sym, ap, _∙_}
-use lib.Dec.{ltb, eqb}
+use lib.Dec.{eqb}
 use Rattle.numbers.specs.declared.answers.Answer.{Answer}
 use Rattle.numbers.specs.declared.Client.{Client}
 use Rattle.header.specs.Header.{countIn}
@@ -16,10 +16,8 @@ use Rattle.block.specs.declared.Log.{Log}
 use Rattle.block.specs.declared.Operation.{Operation}
 use Rattle.block.specs.declared.store.Store.{Store}
 use Rattle.block.specs.Block.{cellAt, headerAt, logAt}
-use Rattle.block.specs.Matrix.{ownEra}
 use Rattle.block.specs.Store.{blockAfter, erasAfter}
 use Rattle.stages.specs.declared.Stage.{Stage}
-use Rattle.stages.specs.declared.ClientRecord.{ClientRecord}
 use Rattle.stages.specs.declared.Stepped.{Stepped}
 use Rattle.stages.specs.Stages.{stepOf, loadStage, loadBy, noteStage, logStage, swapStage, cellStage, eraStage, kept, closed, won}
 use Rattle.rescue.specs.declared.RescueStep.{RescueStep}
@@ -31,7 +29,7 @@ use Rattle.calls.specs.declared.Call.{Call}
 use Rattle.calls.specs.declared.Records.{Records}
 use Rattle.calls.specs.declared.Outcome.{Outcome}
 use Rattle.calls.specs.Checks.{Check, unchanged, refused, afterChecks}
-use Rattle.calls.specs.Calls.{clientOf, client, checks, effect, ofClient, ofRescuer, looked, releasing, shown, plainCall, checkedCall}
+use Rattle.calls.specs.Calls.{clientOf, client, checks, effect, ofClient, looked, releasing, shown, plainCall, checkedCall}
 use Rattle.calls.specs.Demands.{leavesEverything, endsOperation, ended, Demand1}
 
 -- what an outcome owes to the records that its call was given

@@ -1,12 +1,11 @@
 -- A rescuer knows only what lies in shared memory: an accepted take over hands back records with nothing under way,
 -- whatever they were, and from there every step is a function of the shared words. Assumes nothing.
 use Prim.Native.Nat.{ℕ, _<_}
-use mathlib.Core.Bool.{Bool, true, false, cond}
+use mathlib.Core.Bool.{true}
 use mathlib.Core.List.{List, [], _∷_}
-use mathlib.Core.Path.{_≡_, refl, sym, ap, _∙_}
+use mathlib.Core.Path.{_≡_, sym, ap, _∙_}
 use borrow.Author.Tests.{lt-ltb}
 use Rattle.numbers.specs.Sizes.{clients}
-use Rattle.numbers.specs.declared.answers.Answer.{Answer}
 use Rattle.block.specs.declared.Block.{Block}
 use Rattle.block.specs.declared.Standing.{Standing}
 use Rattle.block.specs.Block.{standingAt}

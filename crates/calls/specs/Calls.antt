@@ -1,6 +1,6 @@
 -- The eleven calls (part 2 of the rules): the checks of each in their order, and what an accepted call does.
 use Prim.Native.Nat.{ℕ}
-use mathlib.Core.Bool.{Bool, true, false, cond, _&&_}
+use mathlib.Core.Bool.{Bool, false, cond}
 use mathlib.Core.List.{List, [], _∷_}
 use lib.Dec.{eqb}
 use Rattle.numbers.specs.declared.Client.{Client}
@@ -124,11 +124,11 @@ shown (Cell.Holds s) = Answer.Shows s
 unfoldable pub looked : Stage → Cell → ℕ → Answer
 looked stage held k = cond (releasing stage k) Answer.ShowsNothing (shown held)
 
--- R2.16: a standing changes, and nothing else; what was under way is forgotten
+-- R1.9, R2.16: a standing changes, and nothing else; what was under way is forgotten
 abbrev pub turned : ℕ → Standing → Outcome
 turned c standing = accepted nothing (Store.Standing (client c) standing)
 
--- R2.3 to R2.13: what each call does once its checks have passed
+-- R2.3 to R2.13: what each call does once its checks have passed; R1.11: a release takes its slot from the cell
 unfoldable pub effect : Call → Block → List (List ℕ) → Records → Outcome
 effect (Call.Join c) b eras given = turned c Standing.Running
 effect (Call.Leave c) b eras given = accepted given (Store.Standing (client c) Standing.Absent)

@@ -13,7 +13,6 @@ use Rattle.stages.specs.declared.Stage.{Stage}
 use Rattle.limits.specs.Limits.{within}
 use Rattle.calls.specs.declared.Call.{Call}
 use Rattle.calls.specs.declared.Records.{Records}
-use Rattle.calls.specs.declared.Outcome.{Outcome}
 use Rattle.calls.specs.Calls.{checkedCall}
 
 -- R2.14: the answers that leave everything: 1 to 6, 9 to 13, 199 and 200 up

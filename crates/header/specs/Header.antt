@@ -1,9 +1,6 @@
 -- The header word (R1.4): bits 0 to 31 the era of the last swap, 32 to 47 the count, 48 to 55 the client of the last
 -- swap, the rest zero.
 use Prim.Native.Nat.{ℕ, _+_, _*_, _/_, _%_}
-use mathlib.Core.Bool.{Bool, _&&_}
-use lib.Dec.{ltb, leb}
-use Rattle.numbers.specs.Sizes.{clients, eraLimit, countLimit}
 use Rattle.header.specs.declared.Fields.{Fields}
 
 -- R1.4: the word of the fields, each cut to its bits

@@ -1,10 +1,9 @@
 -- Demand 3, over every history of calls from a fresh block, clients and rescuers failing after any step. A reader of
 -- this file needs World.antt (what a history is) and Ledger.antt (the ledger, from the history alone).
 use Prim.Native.Nat.{ℕ, _+_, _<_, _≤_}
-use mathlib.Core.Bool.{Bool, true, false, cond}
-use mathlib.Core.List.{List, [], _∷_, _++_}
+use mathlib.Core.Bool.{true, false, cond}
+use mathlib.Core.List.{List, [], _∷_}
 use mathlib.Core.Path.{_≡_}
-use lib.Dec.{eqb}
 use Rattle.numbers.specs.Sizes.{clients, slots, cells, eraLimit, countLimit}
 use Rattle.numbers.specs.declared.answers.Answer.{Answer}
 use Rattle.header.specs.Header.{countIn}

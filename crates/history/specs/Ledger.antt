@@ -1,7 +1,7 @@
 -- The ledger of demand 3 (D3): kept from the history alone. A won lease or attach swap, by a client or by its rescuer,
 -- enters a line; the won release swap strikes it out. Beside it each line says whether its cell has been written and
 -- whether its release has been opened, as the calls of the history did. Nothing here reads a count or a cell.
-use Prim.Native.Nat.{ℕ, zero, suc, _+_}
+use Prim.Native.Nat.{ℕ, _+_}
 use mathlib.Core.Bool.{Bool, true, false, cond, _&&_}
 use mathlib.Core.List.{List, [], _∷_, map}
 use lib.Dec.{eqb}

@@ -1,5 +1,6 @@
 // The numbers of the rules. An era, a client number and a slot number are a type each, so that no code can take
-// one for another; client and slot are built where a number has passed its check. The answers stand in `answers`.
+// one for another; a caller's number becomes a client or a slot where it has passed its check. The answers stand in
+// `answers`.
 pub mod answers;
 
 ghost use mathlib.Core.Path.{_≡_};

@@ -27,7 +27,7 @@ went answer stage store = record { answer = answer; next = record { stage = stag
 abbrev pub kept : Operation → ℕ → Stepped
 kept op h = went Answer.Accepted (Stage.Note op h) Store.Nothing
 
--- R2.14: 7 and 8 close the operation and write nothing
+-- R2.14: nothing is written and nothing is under way: 7 and 8, and 5 where nothing was
 abbrev pub closed : Answer → Stepped
 closed answer = went answer Stage.Idle Store.Nothing
 

@@ -27,11 +27,11 @@ recordsAt records c = getD records c nothing
 abbrev pub recordsAfter : List Records → ℕ → Records → List Records
 recordsAfter records c next = set records c next
 
--- R1.5: before the first call nothing is under way
+-- R1.8: before the first call nothing is under way
 abbrev pub freshRecords : List Records
 freshRecords = replicate clients nothing
 
--- R1.5: the world before the first call
+-- R1.5, R1.8: the world before the first call
 unfoldable pub fresh : World
 fresh = record { block = freshBlock; eras = freshEras; records = freshRecords }
 

@@ -1,6 +1,5 @@
 -- `calls::stands` meets its contract: what it returns computes to the definition.
 -- Assumes nothing.
-use mathlib.Core.Path.{sym, _∙_}
 use borrow.Author.Needs.{needs}
 use Rattle.calls.proofs.stands.Statement.{statement}
 use Rattle.calls.proofs.stands.Tie as tie

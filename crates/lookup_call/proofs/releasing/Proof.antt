@@ -1,6 +1,6 @@
 -- `lookup_call::releasing` meets its contract: each arm is the definition at that constructor.
 -- Assumes nothing.
-use mathlib.Core.Path.{sym, _∙_}
+use mathlib.Core.Path.{_∙_}
 use borrow.Author.Needs.{needs}
 use Rattle.lookup_call.proofs.releasing.Statement.{statement}
 use Rattle.lookup_call.proofs.releasing.Tie as tie

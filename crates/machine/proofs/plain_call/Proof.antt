@@ -1,6 +1,6 @@
 -- `machine::plain_call` meets its contract: each arm is the definition at that constructor.
 -- Assumes nothing.
-use mathlib.Core.Path.{sym, _∙_}
+use mathlib.Core.Path.{_∙_}
 use Rattle.calls.specs.Calls.{plainCall, checks, effect}
 use borrow.Author.Needs.{needs}
 use Rattle.machine.proofs.plain_call.Statement.{statement}

@@ -1,6 +1,6 @@
 -- `rescue::raise_era` meets its contract: what it returns computes to the definition.
 -- Assumes nothing.
-use mathlib.Core.Path.{sym, _∙_}
+use mathlib.Core.Path.{_∙_}
 use Rattle.rescue.specs.Rescue.{raiseEra}
 use borrow.Author.Needs.{needs}
 use Rattle.rescue.proofs.raise_era.Statement.{statement}

@@ -1,6 +1,6 @@
 -- `rescue::read_log` meets its contract: what it returns computes to the definition.
 -- Assumes nothing.
-use mathlib.Core.Path.{sym, _∙_}
+use mathlib.Core.Path.{_∙_}
 use borrow.Author.Needs.{needs}
 use Rattle.rescue.proofs.read_log.Statement.{statement}
 use Rattle.rescue.proofs.read_log.Tie as tie

@@ -1,6 +1,6 @@
 -- `rescue::searched` meets its contract: what it returns computes to the definition.
 -- Assumes nothing.
-use mathlib.Core.Path.{sym, _∙_}
+use mathlib.Core.Path.{_∙_}
 use borrow.Author.Needs.{needs}
 use Rattle.rescue.proofs.searched.Statement.{statement}
 use Rattle.rescue.proofs.searched.Tie as tie

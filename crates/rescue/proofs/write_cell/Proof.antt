@@ -1,6 +1,6 @@
 -- `rescue::write_cell` meets its contract: what it returns computes to the definition.
 -- Assumes nothing.
-use mathlib.Core.Path.{sym, _∙_}
+use mathlib.Core.Path.{_∙_}
 use Rattle.rescue.specs.Rescue.{writeCell}
 use borrow.Author.Needs.{needs}
 use Rattle.rescue.proofs.write_cell.Statement.{statement}

@@ -1,6 +1,6 @@
 -- `standing_calls::leave_known` meets its contract: at each `return` the checks that led there say which was the first not to pass, or that all passed.
 -- Assumes nothing.
-use mathlib.Core.Path.{sym, _∙_}
+use mathlib.Core.Path.{_∙_}
 use Rattle.numbers.proofs.Called.{held, lost}
 use borrow.Author.Needs.{needs}
 use Rattle.standing_calls.proofs.leave_known.Statement.{statement}

@@ -1,7 +1,7 @@
 -- `rescue::conditions::onward` meets its contract: at each `return` the test that led there is the test of the definition.
 -- Assumes nothing.
 use borrow.Author.Tests.{eq-eqb, ne-eqb}
-use mathlib.Core.Path.{sym, _∙_}
+use mathlib.Core.Path.{_∙_}
 use borrow.Author.Needs.{needs}
 use Rattle.rescue.proofs.conditions.onward.Statement.{statement}
 use Rattle.rescue.proofs.conditions.onward.Tie as tie

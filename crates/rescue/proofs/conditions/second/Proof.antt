@@ -1,6 +1,6 @@
 -- `rescue::conditions::second` meets its contract: at each `return` the test that led there is the test of the definition.
 -- Assumes nothing.
-use mathlib.Core.Path.{sym, _∙_}
+use mathlib.Core.Path.{_∙_}
 use Rattle.rescue.specs.Rescue.{secondCondition}
 use borrow.Author.Tests.{le-leb, lt-leb}
 use borrow.Author.Needs.{needs}

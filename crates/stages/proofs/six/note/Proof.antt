@@ -1,8 +1,7 @@
 -- `stages::six::note` meets its contract: at each `return` the test that led there is the test of the definition.
 -- Assumes nothing.
-use native.Mathlib.Omega.{arith}
 use Rattle.header.specs.Header.{eraIn}
-use mathlib.Core.Path.{sym, _∙_}
+use mathlib.Core.Path.{_∙_}
 use Rattle.header.proofs.Laws.{era-read}
 use borrow.Author.Tests.{lt-ltb, le-ltb}
 use Rattle.stages.specs.Stages.{noteStage}

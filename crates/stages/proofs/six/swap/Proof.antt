@@ -2,7 +2,6 @@
 -- Assumes nothing.
 use borrow.Author.Tests.{eq-eqb, ne-eqb}
 use Rattle.stages.specs.Stages.{swapStage}
-use native.Mathlib.Omega.{arith}
 use Rattle.header.proofs.Laws.{unpacked-narrow}
 use borrow.Author.Needs.{needs}
 use Rattle.stages.proofs.six.swap.Statement.{statement}
@@ -25,11 +24,15 @@ went-requires-2 c κs = search needs
 
 returns : tie.Need-returns
 unfolding swapStage
-returns c = rw (c .went .ensures, eq-eqb _ _ (c .before .before .before .before .before .if1 .taken), c .before .pack .ensures, c .before .before .count-after .ensures, c .before .before .before .unpack .ensures)
+returns c =
+    let a = c .before .before .before .before .before .before .args in
+    rw (c .went .ensures, eq-eqb (a .header) (a .kept) (c .before .before .before .before .before .if1 .taken), c .before .pack .ensures, c .before .before .count-after .ensures, c .before .before .before .unpack .ensures)
 
 returns-2 : tie.Need-returns-2
 unfolding swapStage
-returns-2 c = rw (c .went2 .ensures, ne-eqb _ _ (c .before .if1 .left))
+returns-2 c =
+    let a = c .before .before .args in
+    rw (c .went2 .ensures, ne-eqb (a .header) (a .kept) (c .before .if1 .left))
 
 pub swap-spec : {M : Type 1} → statement M
 swap-spec =
