@@ -1,0 +1,4 @@
+pub mod Machine
+pub mod Impostors
+pub mod Variant
+pub mod Traps
