@@ -1,0 +1,7 @@
+pub mod Spelling
+pub mod Filling
+pub mod Playing
+pub mod Stepping
+pub mod Turns
+pub mod Slots
+pub mod Same

@@ -1,0 +1,38 @@
+-- `trace::play_end` meets its contract: what it returns computes to the definition.
+-- Assumes nothing.
+use mathlib.Core.Path.{refl}
+use native.Mathlib.Omega.{arith}
+use Rattle.trace.proofs.Filling.{put-then, put-length}
+use Rattle.trace.proofs.Slots.{ending}
+use borrow.Author.Needs.{needs}
+use Rattle.trace.proofs.play_end.Statement.{statement}
+use Rattle.trace.proofs.play_end.Tie as tie
+
+returns : tie.Need-returns
+returns c = record { written-within = omega arith; text = λ h. absurd (omega arith); count = λ h. absurd (omega arith); no-room = λ h. (refl, refl) }
+
+sub-if2 : tie.Need-sub-if2
+sub-if2 c = search needs
+
+returns-2 : tie.Need-returns-2
+returns-2 c = record { written-within = omega arith; text = λ h. absurd (omega arith); count = λ h. absurd (omega arith); no-room = λ h. (refl, refl) }
+
+put-cut-requires : tie.Need-put-cut-requires
+put-cut-requires c κs = search needs
+
+put-slots-requires : tie.Need-put-slots-requires
+put-slots-requires c κs = search needs
+
+same-length : tie.Need-same-length
+same-length c = search needs
+
+returns-3 : tie.Need-returns-3
+returns-3 c = let p = c .before .before .before .before .before .before .put-cut .ensures in
+    let q = c .before .before .put-slots .ensures in
+    let l = put-length (p .0) (omega arith) in
+    ending (put-then (p .0) (q .0) (omega arith)) (omega arith) (omega arith)
+
+pub play-end-spec : {M : Type 1} → statement M
+play-end-spec =
+    tie.close
+    (tie.spec returns sub-if2 returns-2 put-cut-requires put-slots-requires same-length returns-3)

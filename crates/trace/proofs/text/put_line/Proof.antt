@@ -1,0 +1,73 @@
+-- `trace::text::put_line` meets its contract: what it returns computes to the definition.
+-- Assumes nothing.
+use native.Mathlib.Omega.{arith}
+use lib.ListN.{length-set}
+use Rattle.trace.proofs.Filling.{put-one, put-then, put-length, line-parts}
+use borrow.Author.Needs.{needs}
+use Rattle.trace.proofs.text.put_line.Statement.{statement}
+use Rattle.trace.proofs.text.put_line.Tie as tie
+
+put-decimal-requires : tie.Need-put-decimal-requires
+put-decimal-requires c κs = search needs
+
+slice-write-out : tie.Need-slice-write-out
+slice-write-out c = search needs
+
+add-put-decimal : tie.Need-add-put-decimal
+add-put-decimal c = search needs
+
+put-decimal-requires-2 : tie.Need-put-decimal-requires-2
+put-decimal-requires-2 c κs =
+    let p = c .before .before .before .put-decimal .ensures in
+    let l = put-length (p .0) (search needs) in
+    simp length-set (omega arith)
+
+slice-write-out-2 : tie.Need-slice-write-out-2
+slice-write-out-2 c =
+    let a = c .before .before .before .before .before .before .before .before .before .args in
+    let p = c .before .before .before .before .before .before .put-decimal .ensures in
+    let q = c .before .before .put-decimal2 .ensures in
+    let l = put-length (p .0) (search needs) in
+    let p2 = put-then (p .0) (put-one _ _ 32 (omega arith)) (omega arith) in
+    let p3 = put-then p2 (q .0) (omega arith) in
+    let l3 = put-length p3 (omega arith) in
+    omega arith
+
+add-result : tie.Need-add-result
+add-result c = search needs
+
+same-length : tie.Need-same-length
+same-length c =
+    let a = c .before .before .before .before .before .before .before .before .before .args in
+    let p = c .before .before .before .before .before .before .put-decimal .ensures in
+    let q = c .before .before .put-decimal2 .ensures in
+    let l = put-length (p .0) (search needs) in
+    let p2 = put-then (p .0) (put-one _ _ 32 (omega arith)) (omega arith) in
+    let p3 = put-then p2 (q .0) (omega arith) in
+    let l3 = put-length p3 (omega arith) in
+    put-length (put-then p3 (put-one _ _ 10 (omega arith)) (omega arith)) (omega arith)
+
+returns : tie.Need-returns
+returns c =
+    let a = c .before .before .before .before .before .before .before .before .before .args in
+    let p = c .before .before .before .before .before .before .put-decimal .ensures in
+    let q = c .before .before .put-decimal2 .ensures in
+    let l = put-length (p .0) (search needs) in
+    let p2 = put-then (p .0) (put-one _ _ 32 (omega arith)) (omega arith) in
+    let p3 = put-then p2 (q .0) (omega arith) in
+    let l3 = put-length p3 (omega arith) in
+    let p4 = put-then p3 (put-one _ _ 10 (omega arith)) (omega arith) in
+    (rw line-parts at p4, omega arith)
+
+pub put-line-spec : {M : Type 1} → statement M
+put-line-spec =
+    tie.close
+    (tie.spec
+    put-decimal-requires
+    slice-write-out
+    add-put-decimal
+    put-decimal-requires-2
+    slice-write-out-2
+    add-result
+    same-length
+    returns)

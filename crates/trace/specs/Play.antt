@@ -1,0 +1,165 @@
+-- Playing a file (Part 5): records of four bytes, a line for each, and the slots in use at the end.
+use Prim.Native.Nat.{ℕ, zero, suc, _+_, _*_, _≤_, _<_}
+use mathlib.Core.Bool.{cond}
+use mathlib.Core.List.{List, [], _∷_, _++_}
+use mathlib.Core.Path.{_≡_}
+use lib.Dec.{eqb}
+use lib.ListN.{getD, length, take}
+use Rattle.numbers.specs.Answers.{numberOf}
+use Rattle.numbers.specs.declared.answers.Answer.{Answer}
+use Rattle.header.specs.Header.{countIn}
+use Rattle.block.specs.declared.Block.{Block}
+use Rattle.block.specs.Store.{blockAfter, erasAfter}
+use Rattle.calls.specs.declared.Call.{Call}
+use Rattle.calls.specs.declared.Records.{Records}
+use Rattle.calls.specs.declared.Outcome.{Outcome}
+use Rattle.calls.specs.Calls.{clientOf, plainCall}
+use Rattle.world.specs.World.{World, recordsAt, recordsAfter, fresh, answer, after}
+use Rattle.trace.specs.declared.decode.Decoded.{Decoded}
+use Rattle.trace.specs.Text.{line, slotLine, filled}
+
+-- R5.2: the calls by number, from 0
+abbrev pub known : ℕ → ℕ → ℕ → List Decoded
+known c k s =
+    Decoded.Unknown
+    ∷ Decoded.Known (Call.Join c)
+    ∷ Decoded.Known (Call.Leave c)
+    ∷ Decoded.Known (Call.Lease c k s)
+    ∷ Decoded.Known (Call.Attach c k s)
+    ∷ Decoded.Known (Call.Release c k)
+    ∷ Decoded.Known (Call.Step c)
+    ∷ Decoded.Known (Call.Fail c)
+    ∷ Decoded.Known (Call.TakeOver c)
+    ∷ Decoded.Known (Call.RescueStep c)
+    ∷ Decoded.Known (Call.RescuerFails c)
+    ∷ Decoded.Known (Call.LookUp c k)
+    ∷ []
+
+-- R5.1, R5.2: what a record's four bytes ask for
+unfoldable pub decoded : ℕ → ℕ → ℕ → ℕ → Decoded
+decoded call c k s = getD (known c k s) call Decoded.Unknown
+
+-- R5.2: what a record is answered, and the world after it
+abbrev pub told : World → Decoded → Answer
+told w (Decoded.Known call) = answer w call
+told w Decoded.Unknown = Answer.NoSuchCall
+
+abbrev pub next : World → Decoded → World
+next w (Decoded.Known call) = after w call
+next w Decoded.Unknown = w
+
+-- the same without the test of the limits, which no history fails (proofs/Same.antt)
+abbrev pub plainOutcome : World → Call → Outcome
+plainOutcome w call = plainCall call (w .block) (w .eras) (recordsAt (w .records) (clientOf call))
+
+abbrev pub afterOutcome : World → Call → Outcome → World
+afterOutcome w call o =
+    record {
+      block = blockAfter (o .store) (w .block);
+      eras = erasAfter (o .store) (w .eras);
+      records = recordsAfter (w .records) (clientOf call) (o .records);
+    }
+
+abbrev pub plainTold : World → Decoded → Answer
+plainTold w (Decoded.Known call) = plainOutcome w call .answer
+plainTold w Decoded.Unknown = Answer.NoSuchCall
+
+abbrev pub plainNext : World → Decoded → World
+plainNext w (Decoded.Known call) = afterOutcome w call (plainOutcome w call)
+plainNext w Decoded.Unknown = w
+
+-- R5.4: the lines of the whole records of some bytes, from a world and the place of the next record
+unfoldable pub textBy : (World → Decoded → Answer) → (World → Decoded → World) → World → ℕ → List ℕ → List ℕ
+textBy told next w n [] = []
+textBy told next w n (call ∷ []) = []
+textBy told next w n (call ∷ c ∷ []) = []
+textBy told next w n (call ∷ c ∷ k ∷ []) = []
+textBy told next w n (call ∷ c ∷ k ∷ s ∷ rest) =
+    line n (numberOf (told w (decoded call c k s))) ++ textBy told next (next w (decoded call c k s)) (n + 1) rest
+
+-- the world after the whole records of some bytes
+unfoldable pub worldBy : (World → Decoded → World) → World → List ℕ → World
+worldBy next w [] = w
+worldBy next w (call ∷ []) = w
+worldBy next w (call ∷ c ∷ []) = w
+worldBy next w (call ∷ c ∷ k ∷ []) = w
+worldBy next w (call ∷ c ∷ k ∷ s ∷ rest) = worldBy next (next w (decoded call c k s)) rest
+
+-- how many whole records there are, and the bytes after them
+unfoldable pub wholes : List ℕ → ℕ
+wholes [] = 0
+wholes (call ∷ []) = 0
+wholes (call ∷ c ∷ []) = 0
+wholes (call ∷ c ∷ k ∷ []) = 0
+wholes (call ∷ c ∷ k ∷ s ∷ rest) = suc (wholes rest)
+
+unfoldable pub cut : List ℕ → List ℕ
+cut [] = []
+cut (call ∷ []) = call ∷ []
+cut (call ∷ c ∷ []) = call ∷ c ∷ []
+cut (call ∷ c ∷ k ∷ []) = call ∷ c ∷ k ∷ []
+cut (call ∷ c ∷ k ∷ s ∷ rest) = cut rest
+
+-- R5.3: the line of a record that is cut short, at place n
+abbrev pub cutText : ℕ → List ℕ → List ℕ
+cutText n [] = []
+cutText n (byte ∷ more) = line n (numberOf Answer.CutRecord)
+
+-- R5.5: the line of slot s, where its header's count is above 0
+abbrev pub slotText : ℕ → ℕ → List ℕ
+slotText s header = cond (eqb (countIn header) 0) [] (slotLine s (countIn header))
+
+-- R5.5: the lines of the slots from s on, of their headers
+unfoldable pub slotsText : ℕ → List ℕ → List ℕ
+slotsText s [] = []
+slotsText s (header ∷ headers) = slotText s header ++ slotsText (s + 1) headers
+
+-- what stands after the whole records' lines: a cut record's line, and the slots in use
+abbrev pub endText : List ℕ → ℕ → List ℕ → List ℕ
+endText headers n rest = cutText n rest ++ slotsText 0 headers
+
+-- Part 5: what playing some bytes prints, from a world and the place of the next record
+unfoldable pub playedBy : (World → Decoded → Answer) → (World → Decoded → World) → World → ℕ → List ℕ → List ℕ
+playedBy told next w n bytes =
+    textBy told next w n bytes ++ endText (worldBy next w bytes .block .headers) (n + wholes bytes) (cut bytes)
+
+abbrev pub played : World → ℕ → List ℕ → List ℕ
+played = playedBy told next
+
+-- Part 5: all that the program prints for an input
+unfoldable pub printed : List ℕ → List ℕ
+printed input = played fresh 1 input
+
+-- the lines and the world of the player's loop
+abbrev pub plainText : World → ℕ → List ℕ → List ℕ
+plainText = textBy plainTold plainNext
+
+abbrev pub plainWorld : World → List ℕ → World
+plainWorld = worldBy plainNext
+
+-- some bytes are whole records
+abbrev pub Whole : List ℕ → Type 0
+Whole bytes = cut bytes ≡ []
+
+-- the world of a block, a matrix and the records
+abbrev pub worldOf : Block → List (List ℕ) → List Records → World
+worldOf block eras records = record { block = block; eras = eras; records = records }
+
+-- what a turn of the player leaves: of the input, `read` bytes are played; over the output their text is written, and
+-- nothing else; and it stops only where no whole record is left, or the room or the places run short
+pub record Turn (w : World) (n : ℕ) (input out : List ℕ) (left : World) (read written next : ℕ) (exit : List ℕ) : Type 0 where
+  pub read-within : read ≤ length input
+  pub written-within : written ≤ length out
+  pub whole : Whole (take read input)
+  pub text : exit ≡ filled out 0 (plainText w n (take read input))
+  pub count : written ≡ length (plainText w n (take read input))
+  pub world : left ≡ plainWorld w (take read input)
+  pub place : next ≡ n + wholes (take read input)
+  pub stops : read + 4 ≤ length input → written + 42 ≤ length out → n + length input < 18446744073709551616 → ⊥
+
+-- what the end of the player leaves: the text of a cut record and of the slots, where there is room for the longest
+pub record Ending (headers : List ℕ) (n : ℕ) (rest out : List ℕ) (written : ℕ) (exit : List ℕ) : Type 0 where
+  pub written-within : written ≤ length out
+  pub text : 42 + 47 * length headers ≤ length out → exit ≡ filled out 0 (endText headers n rest)
+  pub count : 42 + 47 * length headers ≤ length out → written ≡ length (endText headers n rest)
+  pub no-room : length out < 42 + 47 * length headers → (written ≡ 0) × (exit ≡ out)

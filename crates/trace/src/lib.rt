@@ -1,0 +1,135 @@
+// Playing a file of calls: whole records from an input slice into an output slice, and what stands at the end. The
+// block and the records of the clients are the caller's, from one turn to the next.
+mod apply;
+pub mod decode;
+mod ending;
+mod text;
+
+use crate::apply::apply;
+use crate::apply::log_client;
+use crate::apply::log_word;
+use crate::apply::standing_client;
+use crate::apply::standing_word;
+use crate::decode::Decoded;
+use crate::decode::decode;
+use crate::ending::put_cut;
+use crate::ending::put_slots;
+use crate::text::put_line;
+use block::Block;
+use block::LogWord;
+use block::StandingWord;
+use calls::Records;
+use calls::client_of;
+use machine::plain_call;
+ghost use mathlib.Core.Path.{_≡_};
+ghost use lib.ListN.{length};
+ghost use Rattle.trace.specs.Play.{Turn, Ending, worldOf};
+
+// What a turn leaves: the block and the records, how many bytes it read and wrote, and the next record's place.
+pub struct Played {
+    pub block: Block,
+    pub records: [Records; 8],
+    pub read: usize,
+    pub written: usize,
+    pub place: u64,
+}
+
+// The logs are eight: a fact for a caller's proof, and no code.
+fn eight_logs(logs: [LogWord; 8])
+    ensures { λ _. ⌜ length logs ≡ 8 ⌝ }
+{}
+
+// The standings are eight.
+fn eight_standings(standings: [StandingWord; 8])
+    ensures { λ _. ⌜ length standings ≡ 8 ⌝ }
+{}
+
+// Plays whole records of the input, from the block, the matrix and the records given, until none is left or the
+// output has too little room for the longest line. `place` is the place of the first. The words stand in locals and
+// each store is applied in place; a client that there is none is refused, so its record may be anyone's.
+pub fn play_records<'a>(
+    input: &'a [u8],
+    out: &'a mut [u8],
+    place: u64,
+    block: Block,
+    eras: &'a mut [[u32; 8]],
+    records: [Records; 8],
+) -> Played
+    ensures { λ r. ⌜ Turn (worldOf block (now (eras .entry)) records) place (now (input .entry)) (now (out .entry)) (worldOf (r .block) (now (eras .exit)) (r .records)) (r .read) (r .written) (r .place) (now (out .exit)) ⌝ }
+{
+    if u64::MAX - place < input.len() as u64 {
+        return Played {
+            block,
+            records,
+            read: 0,
+            written: 0,
+            place,
+        };
+    }
+    let mut headers = block.headers;
+    let mut cells = block.cells;
+    let mut logs = block.logs;
+    let mut standings = block.standings;
+    let mut held = records;
+    eight_logs(logs);
+    eight_standings(standings);
+    let mut at: usize = 0;
+    let mut written: usize = 0;
+    let mut n = place;
+    while at + 4 <= input.len() && written + 42 <= out.len() {
+        let decoded = decode(input[at], input[at + 1], input[at + 2], input[at + 3]);
+        at += 4;
+        let Decoded::Known(call) = decoded else {
+            written = put_line(out, written, n, 12);
+            n += 1;
+            continue;
+        };
+        let who = (client_of(call) % 8) as usize;
+        let mine = held[who];
+        let o = plain_call(call, &headers, &cells, logs, standings, &*eras, mine);
+        let next = o.records;
+        held[who] = next;
+        let store = o.store;
+        apply(store, &mut headers, &mut cells, &mut *eras);
+        let logger = log_client(store);
+        if logger < 8 {
+            let word = log_word(store);
+            logs[logger] = word;
+        }
+        let turner = standing_client(store);
+        if turner < 8 {
+            let word = standing_word(store);
+            standings[turner] = word;
+        }
+        let answer = o.answer;
+        written = put_line(out, written, n, answer.number());
+        n += 1;
+    }
+    Played {
+        block: Block {
+            headers,
+            cells,
+            logs,
+            standings,
+        },
+        records: held,
+        read: at,
+        written,
+        place: n,
+    }
+}
+
+// What is printed after the last whole record: the line of a cut one, where bytes of it are left, and the slots in
+// use. It is written where the output has room for the longest that it could be. Answers how many bytes it is.
+pub fn play_end<'a>(rest: &'a [u8], place: u64, headers: &'a [u64], out: &'a mut [u8]) -> usize
+    ensures { λ r. ⌜ Ending (now (headers .entry)) place (now (rest .entry)) (now (out .entry)) r (now (out .exit)) ⌝ }
+{
+    if out.len() < 42 {
+        return 0;
+    }
+    if (out.len() - 42) / 47 < headers.len() {
+        return 0;
+    }
+    let end = put_cut(out, rest, place);
+    put_slots(out, end, headers)
+}
