@@ -1,0 +1,464 @@
+// The sweep: every placement of the deaths and of the other host's operation that a section allows, each a run on a fresh
+// block through the proved machine, held to the ledger after every call. The views make the table of its numbers.
+use crate::agree::Agreement;
+use crate::agree::held_to;
+use crate::choices::Choices;
+use crate::choices::first_choices;
+use crate::doing::is_rescue_step;
+use crate::doing::performed;
+use crate::endings::Endings;
+use crate::endings::no_endings;
+use crate::placement::Plan;
+use crate::placement::Progress;
+use crate::placement::at_start;
+use crate::placement::known_call;
+use crate::placement::one_more;
+use crate::print;
+use crate::scene::Scene;
+use crate::scene::fresh_scene;
+use crate::scene::trapped_scene;
+use block::header_at;
+use calls::Call;
+use calls::client_of;
+use header::unpack;
+use libc::STDERR_FILENO;
+use libc::STDIN_FILENO;
+use numbers::Slot;
+
+// A run: where it stands, its last call, and how it differs from the ledger: 0 not, 1 in a count, 2 in a look up, 3 at the
+// end of the rescue.
+struct Run {
+    scene: Scene,
+    progress: Progress,
+    call: Call,
+    calls: u64,
+    differs: u64,
+    over: bool,
+}
+
+// The first run that differs in one way: whether there is one, its choices and its section.
+struct Kept {
+    found: bool,
+    choices: Choices,
+    kills: u64,
+    parts: u64,
+}
+
+// What a section's runs came to.
+struct Sum {
+    endings: Endings,
+    runs: u64,
+    calls: u64,
+    differing: u64,
+    cut: bool,
+    firsts: [Kept; 4],
+}
+
+// No run yet.
+fn no_runs() -> Sum {
+    Sum {
+        endings: no_endings(),
+        runs: 0,
+        calls: 0,
+        differing: 0,
+        cut: false,
+        firsts: [Kept {
+            found: false,
+            choices: first_choices(),
+            kills: 0,
+            parts: 0,
+        }; 4],
+    }
+}
+
+// The way of differing as a number.
+fn difference(agreement: Agreement) -> u64 {
+    match agreement {
+        Agreement::Whole => 0,
+        Agreement::Count => 1,
+        Agreement::LookUp => 2,
+        Agreement::RescueEnd => 3,
+    }
+}
+
+// A run before its first call.
+fn run_from(scene: Scene, choices: Choices) -> Run {
+    Run {
+        scene,
+        progress: at_start(choices),
+        call: Call::Step(8),
+        calls: 0,
+        differs: 0,
+        over: false,
+    }
+}
+
+// A run that makes no more call.
+fn over(run: Run) -> Run {
+    let mut next = run;
+    next.over = true;
+    next
+}
+
+// One call of a run, held to the ledger.
+fn turn(run: Run, plan: Plan, set_up: &[u8]) -> Run {
+    let scene = run.scene;
+    let progress = run.progress;
+    let width = progress.width(plan);
+    if width == 0 {
+        return over(run);
+    }
+    let actor = progress.actor(plan);
+    let call = progress.call(actor, plan, set_up);
+    let outcome = scene.outcome(call);
+    let answer = outcome.answer;
+    let number = answer.number();
+    let step = performed(call, scene.given_to(call), number).step;
+    let next = scene.after(call, outcome);
+    let ended = number == 100 && is_rescue_step(call);
+    let differs = difference(held_to(next, ended, plan.victim));
+    Run {
+        scene: next,
+        progress: progress.after(actor, width, number, step),
+        call,
+        calls: one_more(run.calls),
+        differs,
+        over: differs != 0,
+    }
+}
+
+// The count of the slot that is swept.
+fn count_of(scene: Scene, slot: u8) -> u64 {
+    let block = scene.block;
+    unpack(header_at(&block.headers, Slot(slot))).count as u64
+}
+
+// An ending as one number: the victim's steps, whether the rescue completed its operation, the count and the own era.
+fn ending_number(steps: u64, completed: u64, count: u64, era: u64) -> u64 {
+    steps % 16 + completed % 2 * 16 + count % 256 * 32 + era % 4294967296 * 8192
+}
+
+// How a run ended.
+fn ending_of(run: Run, plan: Plan) -> u64 {
+    let scene = run.scene;
+    let progress = run.progress;
+    let completed = if progress.completed { 1 } else { 0 };
+    ending_number(
+        progress.steps,
+        completed,
+        count_of(scene, plan.slot),
+        scene.era_of(plan.victim),
+    )
+}
+
+impl Sum {
+    // The first run of its way of differing is kept.
+    fn noted(self, run: Run, plan: Plan) -> Sum {
+        let mut next = self;
+        let at = (run.differs % 4) as usize;
+        let first = next.firsts[at];
+        if run.differs == 0 || first.found {
+            return next;
+        }
+        let choices = run.progress.choices;
+        next.firsts[at] = Kept {
+            found: true,
+            choices,
+            kills: plan.kills,
+            parts: plan.parts,
+        };
+        next
+    }
+
+    // One run more.
+    fn with(self, run: Run, plan: Plan) -> Sum {
+        let mut next = self.noted(run, plan);
+        let progress = run.progress;
+        let choices = progress.choices;
+        let endings = next.endings;
+        next.runs = one_more(self.runs);
+        next.calls = self.calls % 9223372036854775808 + run.calls % 4294967296;
+        if choices.is_full() {
+            next.cut = true;
+        }
+        if run.differs != 0 {
+            next.differing = one_more(self.differing);
+            return next;
+        }
+        let more = endings.with(ending_of(run, plan), progress.rescue_steps);
+        next.endings = more;
+        next
+    }
+}
+
+// Says on standard error how far the sweep is, now and then.
+fn tell_progress(runs: u64) {
+    if runs % 65536 != 0 {
+        return;
+    }
+    io::write_all(STDERR_FILENO, b"sweep: ");
+    io::print_decimal(STDERR_FILENO, runs);
+    io::write_all(STDERR_FILENO, b" runs of this section so far\n");
+}
+
+// The run that goes on from where a choice was made, with the next choice.
+fn branched(before: Run, choices: Choices, made: usize) -> Run {
+    let mut next = before;
+    let progress = next.progress;
+    let told = progress.choosing(choices.from(made));
+    next.progress = told;
+    next
+}
+
+// Every run of a section. Two runs share their calls up to the first choice that they make differently: the run before
+// each choice is kept, and the next run goes on from there.
+fn swept(begin: Scene, plan: Plan, set_up: &[u8]) -> Sum {
+    let mut sum = no_runs();
+    let mut run = run_from(begin, first_choices());
+    let mut before = [run; 96];
+    let mut left = u64::MAX;
+    while 0 < left {
+        left -= 1;
+        if !run.over {
+            let made = run.progress.choices.made;
+            if made < 96 {
+                before[made] = run;
+            }
+            let next = turn(run, plan, set_up);
+            run = next;
+            continue;
+        }
+        let more = sum.with(run, plan);
+        sum = more;
+        tell_progress(sum.runs);
+        let choices = run.progress.choices;
+        let following = choices.following();
+        let at = following.last_told();
+        if 96 <= at {
+            break;
+        }
+        let branch = branched(before[at], following, at);
+        run = branch;
+    }
+    sum
+}
+
+// A section's line: how many rescuers may die, in how many parts the other host plays, runs, calls, runs that differ, and
+// whether a run was too long to be gone through.
+fn print_section(plan: Plan, sum: Sum) {
+    print::heading(b"section");
+    print::number(plan.kills);
+    print::number(plan.parts);
+    print::number(sum.runs);
+    print::number(sum.calls);
+    print::number(sum.differing);
+    print::number(if sum.cut { 1 } else { 0 });
+    print::line_end();
+}
+
+// An ending's line: the victim's steps, whether it was completed, the count, the own era, runs, least and most steps.
+fn print_ending(key: u64, runs: u64, least: u64, most: u64) {
+    print::heading(b"ending");
+    print::number(key % 16);
+    print::number(key / 16 % 2);
+    print::number(key / 32 % 256);
+    print::number(key / 8192);
+    print::number(runs);
+    print::number(least);
+    print::number(most);
+    print::line_end();
+}
+
+// The endings' lines.
+fn print_endings(endings: Endings) {
+    let used = endings.used;
+    let mut at: usize = 0;
+    while at < 64 {
+        if used <= at {
+            return;
+        }
+        print_ending(
+            endings.keys[at],
+            endings.runs[at],
+            endings.least[at],
+            endings.most[at],
+        );
+        at += 1;
+    }
+}
+
+// A call as a record's four numbers.
+fn print_record(call: Call) {
+    print::heading(b"record");
+    match call {
+        Call::Join(c) => print_numbers(1, c, 0, 0),
+        Call::Leave(c) => print_numbers(2, c, 0, 0),
+        Call::Lease(c, k, s) => print_numbers(3, c, k, s),
+        Call::Attach(c, k, s) => print_numbers(4, c, k, s),
+        Call::Release(c, k) => print_numbers(5, c, k, 0),
+        Call::Step(c) => print_numbers(6, c, 0, 0),
+        Call::Fail(c) => print_numbers(7, c, 0, 0),
+        Call::TakeOver(c) => print_numbers(8, c, 0, 0),
+        Call::RescueStep(c) => print_numbers(9, c, 0, 0),
+        Call::RescuerFails(c) => print_numbers(10, c, 0, 0),
+        Call::LookUp(c, k) => print_numbers(11, c, k, 0),
+    }
+    print::line_end();
+}
+
+// Four numbers.
+fn print_numbers(call: u64, client: u64, cell: u64, slot: u64) {
+    print::number(call);
+    print::number(client);
+    print::number(cell);
+    print::number(slot);
+}
+
+// The calls of a run, up to the one after which it differs.
+fn print_run(begin: Scene, choices: Choices, plan: Plan, set_up: &[u8]) {
+    let mut run = run_from(begin, choices.again());
+    let mut left: u64 = 5000;
+    while 0 < left {
+        left -= 1;
+        let next = turn(run, plan, set_up);
+        run = next;
+        if run.over && run.differs == 0 {
+            return;
+        }
+        let call = run.call;
+        print_record(call);
+        if run.over {
+            return;
+        }
+    }
+}
+
+// The first run that differs in one way, as a trace to replay.
+fn print_first(way: u64, kept: Kept, begin: Scene, plan: Plan, set_up: &[u8]) {
+    if !kept.found {
+        return;
+    }
+    let mut section = plan;
+    section.kills = kept.kills;
+    section.parts = kept.parts;
+    let choices = kept.choices;
+    print::heading(b"differs");
+    print::number(way);
+    print::number(kept.kills);
+    print::number(kept.parts);
+    print::line_end();
+    print_run(begin, choices, section, set_up);
+}
+
+// Sweeps a section and prints what came of it.
+fn sweep_section(begin: Scene, plan: Plan, set_up: &[u8], kills: u64, parts: u64) {
+    let mut section = plan;
+    section.kills = kills;
+    section.parts = parts;
+    let sum = swept(begin, section, set_up);
+    let endings = sum.endings;
+    let firsts = sum.firsts;
+    print_section(section, sum);
+    print_endings(endings);
+    print_first(1, firsts[1], begin, section, set_up);
+    print_first(2, firsts[2], begin, section, set_up);
+    print_first(3, firsts[3], begin, section, set_up);
+}
+
+// The world after the set-up.
+fn after_set_up(begin: Scene, plan: Plan, set_up: &[u8]) -> Scene {
+    let mut run = run_from(begin, first_choices());
+    let mut left = plan.set_ups;
+    while 0 < left {
+        left -= 1;
+        let next = turn(run, plan, set_up);
+        run = next;
+    }
+    run.scene
+}
+
+// What the world after the set-up answers to an opening: a sweep is of operations that it accepts.
+fn opens(scene: Scene, call: Call) -> u64 {
+    let answer = scene.outcome(call).answer;
+    answer.number()
+}
+
+// The line of an opening that is refused: 1 the victim's or 2 the other host's, and the answer.
+fn print_refused(whose: u64, answer: u64) {
+    print::heading(b"refused");
+    print::number(whose);
+    print::number(answer);
+    print::line_end();
+}
+
+// The slot of an opening; of a release, the slot in its cell.
+fn slot_of(call: Call, scene: Scene) -> u8 {
+    match call {
+        Call::Lease(_, _, s) => (s % 256) as u8,
+        Call::Attach(_, _, s) => (s % 256) as u8,
+        Call::Release(c, k) => (opens(scene, Call::LookUp(c, k)) % 100) as u8,
+        Call::Join(_) | Call::Leave(_) | Call::Step(_) | Call::Fail(_) | Call::TakeOver(_) => 0,
+        Call::RescueStep(_) | Call::RescuerFails(_) | Call::LookUp(_, _) => 0,
+    }
+}
+
+// Every section: deaths alone, and then with the other host.
+fn sweep_sections(begin: Scene, plan: Plan, set_up: &[u8], with_other: bool) {
+    sweep_section(begin, plan, set_up, 0, 0);
+    sweep_section(begin, plan, set_up, 1, 0);
+    sweep_section(begin, plan, set_up, 2, 0);
+    if with_other {
+        sweep_section(begin, plan, set_up, 0, 100);
+        sweep_section(begin, plan, set_up, 1, 2);
+        sweep_section(begin, plan, set_up, 2, 1);
+    }
+}
+
+// Sweeps what the records say, where the world after the set-up accepts both openings.
+fn sweep_plan(begin: Scene, plan: Plan, set_up: &[u8], with_other: bool) {
+    let scene = after_set_up(begin, plan, set_up);
+    let opening = plan.opening;
+    let other = plan.other;
+    let victim = opens(scene, opening);
+    if victim != 0 {
+        print_refused(1, victim);
+        return;
+    }
+    let host = opens(scene, other);
+    if with_other && host != 0 {
+        print_refused(2, host);
+        return;
+    }
+    let mut full = plan;
+    full.slot = slot_of(opening, scene);
+    sweep_sections(begin, full, set_up, with_other);
+}
+
+// Reads the victim's opening, the other host's (0: none) and the set-up from standard input, and sweeps. `trapped`: own
+// eras start at 0, as the trap has it, to see a sweep that differs.
+pub(crate) fn sweep(trapped: bool) {
+    let mut input = io::buffer();
+    let n = io::read_full(STDIN_FILENO, &mut input);
+    if n < 8 {
+        return;
+    }
+    let opening = known_call(input[0], input[1], input[2], input[3]);
+    let other = known_call(input[4], input[5], input[6], input[7]);
+    let with_other = input[4] != 0;
+    let plan = Plan {
+        opening,
+        victim: client_of(opening),
+        slot: 0,
+        other,
+        host: client_of(other),
+        set_ups: (n - 8) / 4,
+        kills: 0,
+        parts: 0,
+    };
+    let begin = if trapped {
+        trapped_scene()
+    } else {
+        fresh_scene()
+    };
+    sweep_plan(begin, plan, &input[8..n], with_other);
+}

@@ -1,0 +1,167 @@
+// The one shared word that a call wrote, in numbers: which it is, its old value and its new one.
+use crate::doing::kind_number;
+use crate::scene::Scene;
+use block::Cell;
+use block::Entry;
+use block::Log;
+use block::Standing;
+use block::cell_at;
+use block::header_at;
+use block::log_at;
+use block::matrix::seen_era;
+use block::standing_at;
+use block::store::Store;
+use header::unpack;
+use numbers::Client;
+
+// A word's value: a header's era, count and client; a cell's slot; a log's kind, era, cell, slot and count; an era; a
+// standing. What a word does not have is 0.
+pub(crate) struct Value {
+    pub(crate) first: u64,
+    pub(crate) second: u64,
+    pub(crate) third: u64,
+    pub(crate) fourth: u64,
+    pub(crate) fifth: u64,
+}
+
+// Which word: 0 none, 1 a slot's header, 2 a client's cell, 3 its log, 4 an entry of a row, 5 a standing.
+pub(crate) struct Word {
+    pub(crate) sort: u64,
+    pub(crate) whose: u64,
+    pub(crate) which: u64,
+}
+
+// A value of one number.
+fn single(first: u64) -> Value {
+    Value {
+        first,
+        second: 0,
+        third: 0,
+        fourth: 0,
+        fifth: 0,
+    }
+}
+
+// A header's value.
+pub(crate) fn header_value(word: u64) -> Value {
+    let fields = unpack(word);
+    let era = fields.era;
+    let client = fields.client;
+    let mut value = single(era.0 as u64);
+    value.second = fields.count as u64;
+    value.third = client.0 as u64;
+    value
+}
+
+// A cell's value: its slot, and 255 where it is empty.
+fn cell_value(held: Cell) -> Value {
+    match held {
+        Cell::Empty => single(255),
+        Cell::Holds(slot) => single(slot.0 as u64),
+    }
+}
+
+// A written log's value.
+fn entry_value(entry: Entry) -> Value {
+    let op = entry.operation;
+    let kind = op.kind;
+    let slot = op.slot;
+    let era = entry.era;
+    Value {
+        first: kind_number(kind),
+        second: era.0 as u64,
+        third: op.cell as u64,
+        fourth: slot.0 as u64,
+        fifth: entry.count as u64,
+    }
+}
+
+// A log's value.
+fn log_value(log: Log) -> Value {
+    match log {
+        Log::Nothing => single(0),
+        Log::Wrote(entry) => entry_value(entry),
+    }
+}
+
+// A standing's number.
+pub(crate) fn standing_number(standing: Standing) -> u64 {
+    match standing {
+        Standing::Absent => 0,
+        Standing::Running => 1,
+        Standing::Failed => 2,
+        Standing::InRescue => 3,
+    }
+}
+
+// The standing of a client, as a number.
+pub(crate) fn standing_of(scene: Scene, client: Client) -> u64 {
+    let standings = scene.block.standings;
+    standing_number(standing_at(standings, client))
+}
+
+// The word that a store names.
+pub(crate) fn word_of(store: Store) -> Word {
+    match store {
+        Store::Nothing => named(0, 0, 0),
+        Store::Header(slot, _) => named(1, slot.0 as u64, 0),
+        Store::Cell(client, cell, _) => named(2, client.0 as u64, cell as u64),
+        Store::Log(client, _) => named(3, client.0 as u64, 0),
+        Store::Era(by, of, _) => named(4, by.0 as u64, of.0 as u64),
+        Store::Standing(client, _) => named(5, client.0 as u64, 0),
+    }
+}
+
+// A word by its numbers.
+fn named(sort: u64, whose: u64, which: u64) -> Word {
+    Word { sort, whose, which }
+}
+
+// What a store writes.
+pub(crate) fn written_value(store: Store) -> Value {
+    match store {
+        Store::Nothing => single(0),
+        Store::Header(_, word) => header_value(word),
+        Store::Cell(_, _, held) => cell_value(held),
+        Store::Log(_, entry) => entry_value(entry),
+        Store::Era(_, _, era) => single(era.0 as u64),
+        Store::Standing(_, standing) => single(standing_number(standing)),
+    }
+}
+
+// A client's cell's value.
+fn value_in_cell(scene: Scene, client: Client, cell: u8) -> Value {
+    let block = scene.block;
+    cell_value(cell_at(&block.cells, client, cell))
+}
+
+// A slot's header's value.
+fn value_of_header(scene: Scene, slot: numbers::Slot) -> Value {
+    let block = scene.block;
+    header_value(header_at(&block.headers, slot))
+}
+
+// A client's log's value.
+fn value_of_log(scene: Scene, client: Client) -> Value {
+    let logs = scene.block.logs;
+    log_value(log_at(logs, client))
+}
+
+// An era's value in the matrix.
+fn value_of_era(scene: Scene, by: Client, of: Client) -> Value {
+    let eras = scene.matrix();
+    let era = seen_era(&eras, by, of);
+    single(era.0 as u64)
+}
+
+// What stands, before the store, in the word that it names.
+pub(crate) fn standing_value(store: Store, scene: Scene) -> Value {
+    match store {
+        Store::Nothing => single(0),
+        Store::Header(slot, _) => value_of_header(scene, slot),
+        Store::Cell(client, cell, _) => value_in_cell(scene, client, cell),
+        Store::Log(client, _) => value_of_log(scene, client),
+        Store::Era(by, of, _) => value_of_era(scene, by, of),
+        Store::Standing(client, _) => single(standing_of(scene, client)),
+    }
+}
