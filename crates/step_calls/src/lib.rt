@@ -91,14 +91,14 @@ pub fn client_step<'a>(
 ) -> Stepped
     ensures { λ r. ⌜ r ≡ clientStep c standings (now (headers .entry)) (now (eras .entry)) given ⌝ }
 {
-    let ClientCheck::Known(me) = Client::checked(c) else {
+    let ClientCheck::Known(who) = Client::checked(c) else {
         return left(Answer::NoSuchClient, given);
     };
-    if !stands(Standing::Running, standings, me) {
+    if !stands(Standing::Running, standings, who) {
         return left(Answer::WrongStanding, given);
     }
     let stage = given.stage;
-    one_stage(me, headers, eras, stage)
+    one_stage(who, headers, eras, stage)
 }
 
 // A step that is refused: the record as it was, and nothing written.

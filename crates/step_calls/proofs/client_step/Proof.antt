@@ -11,8 +11,8 @@ use Rattle.step_calls.proofs.client_step.Tie as tie
 checked-requires : tie.Need-checked-requires
 checked-requires c κs = search needs
 
-enum-known-me : tie.Need-enum-known-me
-enum-known-me c = search needs
+enum-known-who : tie.Need-enum-known-who
+enum-known-who c = search needs
 
 enum-told : tie.Need-enum-told
 enum-told c = search needs
@@ -32,7 +32,7 @@ left-requires-2 c κs = search needs
 
 returns-2 : tie.Need-returns-2
 unfolding clientStep
-returns-2 c = let p = client-known (c .before .before .before .before .before .before .before .before .args .c) _ (sym (c .before .before .before .before .before .before .checked .ensures) ∙ c .before .before .before .before .me .given .1) in
+returns-2 c = let p = client-known (c .before .before .before .before .before .before .before .before .args .c) _ (sym (c .before .before .before .before .before .before .checked .ensures) ∙ c .before .before .before .before .who .given .1) in
     c .left2 .ensures ∙ rw (p .passed, rw (← (p .same)) at (lost (c .before .before .stands .ensures) (c .before .if1 .taken)))
 
 one-stage-requires : tie.Need-one-stage-requires
@@ -40,7 +40,7 @@ one-stage-requires c κs = search needs
 
 returns-3 : tie.Need-returns-3
 unfolding clientStep
-returns-3 c = let p = client-known (c .before .before .before .before .before .before .before .before .args .c) _ (sym (c .before .before .before .before .before .before .checked .ensures) ∙ c .before .before .before .before .me .given .1) in
+returns-3 c = let p = client-known (c .before .before .before .before .before .before .before .before .args .c) _ (sym (c .before .before .before .before .before .before .checked .ensures) ∙ c .before .before .before .before .who .given .1) in
     c .one-stage .ensures
     ∙ rw (
       p .passed,
@@ -53,7 +53,7 @@ client-step-spec =
     tie.close
     (tie.spec
     checked-requires
-    enum-known-me
+    enum-known-who
     enum-told
     left-requires
     returns
