@@ -1,7 +1,7 @@
 // A client's working record and the six stages of an operation, one a step. Client and rescuer share them: a rescuer
 // takes them with the number of the client that it acts for. A stage is a function of the few words that it reads;
 // what it writes is the store that it answers with.
-mod six;
+pub mod six;
 
 use block::Cell;
 use block::Kind;

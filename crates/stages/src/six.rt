@@ -29,14 +29,14 @@ fn went(answer: Answer, stage: Stage, store: Store) -> Stepped
 }
 
 // A step with nothing under way.
-pub(crate) fn nothing_under_way() -> Stepped
+pub fn nothing_under_way() -> Stepped
     ensures { λ r. ⌜ r ≡ went Answer.WrongMoment Stage.Idle Store.Nothing ⌝ }
 {
     went(Answer::WrongMoment, Stage::Idle, Store::Nothing)
 }
 
 // 1. Load: keeps the slot's header; a lease asks for count 0, an attach for 1 or more.
-pub(crate) fn load(op: Operation, header: u64) -> Stepped
+pub fn load(op: Operation, header: u64) -> Stepped
     ensures { λ r. ⌜ r ≡ loadStage op header ⌝ }
 {
     let count = unpack(header).count;
@@ -61,7 +61,7 @@ pub(crate) fn load(op: Operation, header: u64) -> Stepped
 }
 
 // 2. Note: raises what the own row has seen of the header's client to the header's era.
-pub(crate) fn note(me: Client, op: Operation, kept: u64, seen: Era) -> Stepped
+pub fn note(me: Client, op: Operation, kept: u64, seen: Era) -> Stepped
     ensures { λ r. ⌜ r ≡ noteStage me op kept seen ⌝ }
 {
     let fields = unpack(kept);
@@ -79,7 +79,7 @@ pub(crate) fn note(me: Client, op: Operation, kept: u64, seen: Era) -> Stepped
 }
 
 // 3. Log: writes the operation, the own era and the count read.
-pub(crate) fn log_entry(me: Client, op: Operation, kept: u64, own: Era) -> Stepped
+pub fn log_entry(me: Client, op: Operation, kept: u64, own: Era) -> Stepped
     ensures { λ r. ⌜ r ≡ logStage me op kept own ⌝ }
 {
     let entry = Entry {
@@ -95,7 +95,7 @@ pub(crate) fn log_entry(me: Client, op: Operation, kept: u64, own: Era) -> Stepp
 }
 
 // 4. Swap: writes the slot's header where it still is the whole kept word, else goes back to the load.
-pub(crate) fn swap(me: Client, op: Operation, kept: u64, own: Era, header: u64) -> Stepped
+pub fn swap(me: Client, op: Operation, kept: u64, own: Era, header: u64) -> Stepped
     ensures { λ r. ⌜ r ≡ swapStage me op kept own header ⌝ }
 {
     if header == kept {
@@ -129,7 +129,7 @@ fn count_after(kind: Kind, count: u32) -> u32
 }
 
 // 5. Cell: writes the slot, or empties the cell for a release.
-pub(crate) fn write_cell(me: Client, op: Operation, kept: u64) -> Stepped
+pub fn write_cell(me: Client, op: Operation, kept: u64) -> Stepped
     ensures { λ r. ⌜ r ≡ cellStage me op kept ⌝ }
 {
     went(
@@ -140,7 +140,7 @@ pub(crate) fn write_cell(me: Client, op: Operation, kept: u64) -> Stepped
 }
 
 // 6. Era: raises the own era; the operation is finished.
-pub(crate) fn raise_era(me: Client, own: Era) -> Stepped
+pub fn raise_era(me: Client, own: Era) -> Stepped
     ensures { λ r. ⌜ r ≡ eraStage me own ⌝ }
 {
     went(

@@ -4,7 +4,7 @@ use mathlib.Core.List.{List, [], _∷_, _++_, append-assoc}
 use mathlib.Core.Path.{_≡_, refl, sym, ap, _∙_}
 use native.Mathlib.Omega.{arith}
 use native.Mathlib.Numerals.{add-one}
-use lib.ListN.{length, take, drop, set, length-append, length-take, length-drop, take-append-drop}
+use lib.ListN.{length, take, drop, set, length-set, length-append, length-take, length-drop, take-append-drop}
 use lib.Seq.{set-split, take-at, drop-at, drop-drop, length-take-le}
 use Rattle.trace.specs.Text.{spelled, width, decimal, line, slotWord, slotLine, filled, Put}
 use Rattle.trace.proofs.Spelling.{spelled-append, spelled-length}
@@ -49,12 +49,12 @@ pub decimal-length : (n : ℕ) → length (decimal n) ≡ width n
 unfolding decimal
 decimal-length n = spelled-length (width n) n [] ∙ (let z : width n + 0 ≡ width n = omega arith in z)
 
-pub decimal-filled :
-    (o : List ℕ) (at n : ℕ) → take at o ++ spelled (width n) n (drop (at + width n) o) ≡ filled o at (decimal n)
-unfolding decimal
-decimal-filled o at n =
-    rw (spelled-append (width n) n [], spelled-length (width n) n [])
-    (let z : width n + 0 ≡ width n = omega arith in rw z refl)
+-- digits before what stands after them
+pub spelled-filled :
+    (o : List ℕ) (at k n : ℕ) → take at o ++ spelled k n (drop (at + k) o) ≡ filled o at (spelled k n [])
+spelled-filled o at k n =
+    rw (spelled-append k n [], spelled-length k n [])
+    (let z : k + 0 ≡ k = omega arith in rw z refl)
 
 -- a byte put
 pub put-one : (o : List ℕ) (i b : ℕ) → i < length o → Put o i (b ∷ []) (set o i b) (i + 1)
@@ -87,7 +87,51 @@ put-then {o} {t} {u} {one} {two} {at} {mid} {end} p q h =
           ∙ filled-then o at t u mid e (omega arith);
     }
 
+-- a text put under another name
+pub put-as : {o t u out : List ℕ} {at end : ℕ} → u ≡ t → Put o at t out end → Put o at u out end
+put-as {o} {t} {u} {out} {at} {end} e p =
+    record { ends = p .ends ∙ ap (λ (x : List ℕ). at + length x) (sym e); fills = p .fills ∙ ap (filled o at) (sym e) }
+
+-- four digits put
+pub put-digits : {o out : List ℕ} {at : ℕ} (n : ℕ) → out ≡ filled o at (spelled 4 n []) → Put o at (spelled 4 n []) out (at + 4)
+put-digits {o} {out} {at} n e = record { ends = rw (spelled-length 4 n []) refl; fills = e }
+
+-- two bytes, and three
+pub put-two :
+    (o : List ℕ) (at a b : ℕ) → at + 2 ≤ length o → Put o at (a ∷ b ∷ []) (set (set o at a) (at + 1) b) (at + 2)
+put-two o at a b h =
+    put-then (put-one o at a (omega arith)) (put-at _ (at + 1) b (at + 2) (simp length-set (omega arith)) (omega arith)) h
+
+pub put-three :
+    (o : List ℕ) (at a b c : ℕ) →
+    at + 3 ≤ length o →
+    Put o at (a ∷ b ∷ c ∷ []) (set (set (set o at a) (at + 1) b) (at + 2) c) (at + 3)
+put-three o at a b c h =
+    put-then (put-two o at a b (omega arith)) (put-at _ (at + 2) c (at + 3) (simp length-set (omega arith)) (omega arith)) h
+
 -- a line in its parts
-pub line-parts : (p a : ℕ) → ((decimal p ++ (32 ∷ [])) ++ decimal a) ++ (10 ∷ []) ≡ line p a
+line-parts : (p a : ℕ) → ((decimal p ++ (32 ∷ [])) ++ decimal a) ++ (10 ∷ []) ≡ line p a
 unfolding line
 line-parts p a = simp append-assoc
+
+-- a line put part by part
+module _
+    {o one two : List ℕ} {at space end : ℕ} (p a : ℕ)
+    (room : at + 42 ≤ length o)
+    (first : Put o at (decimal p) one space) (short : space ≤ at + 20)
+    (second : Put (set one space 32) (space + 1) (decimal a) two end) (brief : end ≤ space + 1 + 20) where
+  up-to-number : Put o at ((decimal p ++ (32 ∷ [])) ++ decimal a) two end
+  up-to-number =
+      let l = put-length first (omega arith) in
+      put-then (put-then first (put-one one space 32 (omega arith)) (omega arith)) second (omega arith)
+
+  pub number-length : length two ≡ length o
+  number-length = put-length up-to-number (omega arith)
+
+  pub line-put : Put o at (line p a) (set two end 10) (end + 1)
+  line-put =
+      let l = number-length in
+      rw line-parts at (put-then up-to-number (put-one two end 10 (omega arith)) (omega arith))
+
+  pub line-length : length (set two end 10) ≡ length o
+  line-length = put-length line-put (omega arith)

@@ -1,7 +1,9 @@
 pub mod Spelling
 pub mod Filling
+pub mod Widths
 pub mod Playing
 pub mod Stepping
 pub mod Turns
 pub mod Slots
 pub mod Same
+pub mod Determined

@@ -72,27 +72,33 @@ module _ (told : World → Decoded → Answer) (next : World → Decoded → Wor
       let m : n + (wholes x + wholes y) ≡ n + wholes x + wholes y = omega arith in
       rw (text-then w n x y h, world-then w x y h, wholes-then x y h, cut-then x y h, m) (simp append-assoc)
 
--- the next four bytes
+-- the next four bytes, and those after them
+pub four-next :
+    (input : List ℕ) (at : ℕ) →
+    at + 4 ≤ length input →
+    drop at input
+    ≡ getD input at 0 ∷ getD input (at + 1) 0 ∷ getD input (at + 2) 0 ∷ getD input (at + 3) 0 ∷ drop (at + 4) input
+four-next input at h =
+    let at-cons : (i : ℕ) → i < length input → drop i input ≡ getD input i 0 ∷ drop (i + 1) input =
+    λ i l. drop-cons input i 0 l ∙ ap (λ (m : ℕ). getD input i 0 ∷ drop m input) (sym (add-one i)) in
+    let s2 : at + 1 + 1 ≡ at + 2 = omega arith in
+    let s3 : at + 2 + 1 ≡ at + 3 = omega arith in
+    let s4 : at + 3 + 1 ≡ at + 4 = omega arith in
+    let d1 = rw s2 at (at-cons (at + 1) (omega arith)) in
+    let d2 = rw s3 at (at-cons (at + 2) (omega arith)) in
+    let d3 = rw s4 at (at-cons (at + 3) (omega arith)) in
+    at-cons at (omega arith)
+    ∙ ap (λ (x : List ℕ). getD input at 0 ∷ x)
+    (d1 ∙ ap (λ (x : List ℕ). getD input (at + 1) 0 ∷ x)
+    (d2 ∙ ap (λ (x : List ℕ). getD input (at + 2) 0 ∷ x) d3))
+
 pub four-more :
     (input : List ℕ) (at : ℕ) →
     at + 4 ≤ length input →
     take (at + 4) input
     ≡ take at input
     ++ (getD input at 0 ∷ getD input (at + 1) 0 ∷ getD input (at + 2) 0 ∷ getD input (at + 3) 0 ∷ [])
-four-more input at h =
-    let at-cons : (i : ℕ) → i < length input → drop i input ≡ getD input i 0 ∷ drop (i + 1) input =
-    λ i l. drop-cons input i 0 l ∙ ap (λ (m : ℕ). getD input i 0 ∷ drop m input) (sym (add-one i)) in
-    let s2 : at + 1 + 1 ≡ at + 2 = omega arith in
-    let s3 : at + 2 + 1 ≡ at + 3 = omega arith in
-    let d1 = rw s2 at (at-cons (at + 1) (omega arith)) in
-    let d2 = rw s3 at (at-cons (at + 2) (omega arith)) in
-    let d3 = at-cons (at + 3) (omega arith) in
-    take-add at 4 input
-    ∙ ap (λ (x : List ℕ). take at input ++ take 4 x)
-    (at-cons at (omega arith)
-    ∙ ap (λ (x : List ℕ). getD input at 0 ∷ x)
-    (d1 ∙ ap (λ (x : List ℕ). getD input (at + 1) 0 ∷ x)
-    (d2 ∙ ap (λ (x : List ℕ). getD input (at + 2) 0 ∷ x) d3)))
+four-more input at h = take-add at 4 input ∙ ap (λ (x : List ℕ). take at input ++ take 4 x) (four-next input at h)
 
 -- R5.6: an empty input prints nothing
 pub empty-prints-nothing : printed [] ≡ []

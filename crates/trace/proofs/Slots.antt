@@ -6,7 +6,7 @@ use native.Mathlib.Omega.{arith}
 use native.Mathlib.Numerals.{add-one}
 use lib.ListN.{length, drop, getD, drop-of-length-le}
 use lib.Seq.{drop-cons}
-use borrow.Author.Tests.{eq-eqb, ne-eqb}
+use borrow.Author.Tests.{eq-eqb, ne-eqb, lt-ltb, le-ltb}
 use Rattle.header.specs.Header.{countIn}
 use Rattle.trace.specs.Text.{line, slotLine, filled, Put}
 use Rattle.trace.specs.Play.{cutText, slotText, slotsText, endText, Ending}
@@ -89,9 +89,14 @@ pub ending :
     42 + 47 * length headers ≤ length out →
     Ending headers n rest out end after
 ending {headers} {rest} {out} {after} {n} {end} p h room =
-    record {
-      written-within = h;
-      text = λ r. p .fills;
-      count = λ r. let e = p .ends in omega arith;
-      no-room = λ r. absurd (omega arith);
-    }
+    let t = le-ltb (length out) (42 + 47 * length headers) room in
+    record { result = rw t (let e = p .ends in omega arith); text = rw t (p .fills); written-within = h }
+
+-- and where there is none
+pub no-ending :
+    {headers rest out : List ℕ} {n : ℕ} →
+    length out < 42 + 47 * length headers →
+    Ending headers n rest out 0 out
+no-ending {headers} {rest} {out} {n} short =
+    let t = lt-ltb (length out) (42 + 47 * length headers) short in
+    record { result = rw t refl; text = rw t (sym (filled-none out 0)); written-within = omega arith }

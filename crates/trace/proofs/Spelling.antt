@@ -73,28 +73,36 @@ module _ {start : List ℕ} {at k n : ℕ} where
       let b0 : drop at out ≡ spelled k n (drop (at + k) start) = ap (λ (m : ℕ). spelled m rest (drop at out)) (sym e) ∙ b in
       sym (take-append-drop at out) ∙ ap (λ (x : List ℕ). x ++ drop at out) a ∙ ap (λ (x : List ℕ). take at start ++ x) b0
 
--- four digits put one by one
-pub four :
-    (l : List ℕ) (at n : ℕ) →
-    at + 4 ≤ length l →
-    set (set (set (set l (at + 3) (48 + n % 10)) (at + 2) (48 + n / 10 % 10)) (at + 1) (48 + n / 100 % 10)) at (48 + n / 1000 % 10)
-    ≡ take at l ++ spelled 4 n (drop (at + 4) l)
-four l at n h =
-    let q2 : n / 10 / 10 ≡ n / 100 = omega arith in
-    let q3 : n / 10 / 10 / 10 ≡ n / 1000 = omega arith in
-    let p1 = digit {start = l} {at = at} {k = 4} {n = n} 3 starts refl (omega arith) in
-    let p2 = digit 2 p1 refl (simp length-set (omega arith)) in
-    let p3 = digit 1 p2 refl (simp length-set (omega arith)) in
-    let p4 = digit 0 p3 refl (simp length-set (omega arith)) in
-    let z : at + 0 ≡ at = omega arith in
-    rw (← q3, ← q2) (rw z at (ends 0 p4 refl))
-
 -- a number cut at a multiple of ten: its last digit, and the others
 last : (a b q : ℕ) → a ≡ 10 * q + b → b % 10 ≡ a % 10
 last a b q e = omega arith
 
 others : (a b q : ℕ) → a ≡ 10 * q + b → a / 10 ≡ q + b / 10
 others a b q e = omega arith
+
+-- the four digits of a number below ten thousand put one by one
+pub four :
+    (l : List ℕ) (at n : ℕ) →
+    n < 10000 →
+    at + 4 ≤ length l →
+    set (set (set (set l (at + 3) (48 + n % 100 % 10)) (at + 2) (48 + n % 100 / 10)) (at + 1) (48 + n / 100 % 10)) at (48 + n / 100 / 10)
+    ≡ take at l ++ spelled 4 n (drop (at + 4) l)
+four l at n small h =
+    let q1 : n % 100 % 10 ≡ n % 10 = omega arith in
+    let r : n % 100 / 10 % 10 ≡ n % 100 / 10 = omega arith in
+    let o = others n (n % 100) (10 * (n / 100)) (omega arith) in
+    let q2 : n % 100 / 10 ≡ n / 10 % 10 = sym r ∙ last (n / 10) (n % 100 / 10) (n / 100) o in
+    let h2 : n / 10 / 10 ≡ n / 100 = omega arith in
+    let h3 : n / 10 / 10 / 10 ≡ n / 100 / 10 = ap (λ (x : ℕ). x / 10) h2 in
+    let q3 : n / 100 % 10 ≡ n / 10 / 10 % 10 = ap (λ (x : ℕ). x % 10) (sym h2) in
+    let t : n / 100 / 10 % 10 ≡ n / 100 / 10 = omega arith in
+    let q4 : n / 100 / 10 ≡ n / 10 / 10 / 10 % 10 = sym t ∙ ap (λ (x : ℕ). x % 10) (sym h3) in
+    let p1 = digit {start = l} {at = at} {k = 4} {n = n} 3 starts refl (omega arith) in
+    let p2 = digit 2 p1 refl (simp length-set (omega arith)) in
+    let p3 = digit 1 p2 refl (simp length-set (omega arith)) in
+    let p4 = digit 0 p3 refl (simp length-set (omega arith)) in
+    let z : at + 0 ≡ at = omega arith in
+    rw (q1, q2, q3, q4) (rw z at (ends 0 p4 refl))
 
 -- four digits of the rest at once, of a rest in two parts
 spelled-parts :
@@ -132,51 +140,8 @@ unfolding spelled
 spelled-length zero n a = omega arith
 spelled-length (suc k) n a = spelled-length k (n / 10) ((48 + n % 10) ∷ a) ∙ (let z : k + suc (length a) ≡ suc k + length a = omega arith in z)
 
-module _ {start : List ℕ} {at k n : ℕ} where
-  -- four digits more
-  pub quad :
-      {out : List ℕ} {i rest : ℕ} (j : ℕ) →
-      Spelt start at k n out i rest →
-      i ≡ j + 4 →
-      at + j + 4 ≤ length out →
-      (after : List ℕ) →
-      after ≡ take (at + j) out ++ spelled 4 (rest % 10000) (drop (at + j + 4) out) →
-      Spelt start at k n after j (rest / 10000)
-  quad {out} {i} {rest} j p e h after put =
-      let m : at + j + 4 ≡ at + i = omega arith in
-      let l : length (take (at + j) out) ≡ at + j = length-take-le (at + j) out (omega arith) in
-      record {
-        size =
-            ap length put
-            ∙ simp (length-append, spelled-length, length-drop, l)
-            (let z : at + j + (4 + (length out - (at + j + 4))) ≡ length out = omega arith in z)
-            ∙ p .size;
-        kept =
-            ap (take (at + j)) put ∙ take-at (take (at + j) out) _ (at + j) l
-            ∙ before start out at i j (omega arith) (p .kept);
-        text =
-            ap (λ (x : List ℕ). spelled j (rest / 10000) (drop (at + j) x)) put
-            ∙ ap (spelled j (rest / 10000)) (drop-at (take (at + j) out) _ (at + j) l)
-            ∙ ap (λ (x : ℕ). spelled j (rest / 10000) (spelled 4 (rest % 10000) (drop x out))) m
-            ∙ sym (spelled-four j rest (drop (at + i) out))
-            ∙ ap (λ (x : ℕ). spelled x rest (drop (at + i) out)) (sym e)
-            ∙ p .text;
-      }
-
 -- what a text is put before does not change its digits
 pub spelled-append : (k n : ℕ) (a b : List ℕ) → spelled k n a ++ b ≡ spelled k n (a ++ b)
 unfolding spelled
 spelled-append zero n a b = refl
 spelled-append (suc k) n a b = spelled-append k (n / 10) ((48 + n % 10) ∷ a) b
-
--- digits put from a place that others were put up to
-pub joins :
-    {start mid out : List ℕ} {at k n i rest j last : ℕ} →
-    Spelt start at k n mid i rest →
-    Spelt mid at i rest out j last →
-    j ≡ 0 →
-    out ≡ take at start ++ spelled k n (drop (at + k) start)
-joins {start} {mid} {out} {at} {k} {n} {i} {rest} {j} p q e =
-    let z : at + 0 ≡ at = omega arith in
-    let a : take at mid ≡ take at start = rw z at (before start mid at i 0 (omega arith) (p .kept)) in
-    ends j q e ∙ ap (λ (x : List ℕ). x ++ spelled i rest (drop (at + i) mid)) a ∙ ap (λ (x : List ℕ). take at start ++ x) (p .text)

@@ -1,5 +1,5 @@
 -- One call of the player's loop, on words in locals, is the call of the definition, on a world. Assumes nothing.
-use Prim.Native.Nat.{ℕ, _+_, _%_, _≤_, _<_}
+use Prim.Native.Nat.{ℕ, zero, suc, _+_, _%_, _≤_, _<_}
 use mathlib.Core.List.{List, []}
 use mathlib.Core.Path.{_≡_, refl, sym, ap, _∙_}
 use mathlib.Core.Bool.{true, false}
@@ -25,7 +25,8 @@ use Rattle.calls.specs.Calls.{clientOf, nothing, checks, plainCall, lent}
 use Rattle.world.specs.World.{World, recordsAt}
 use Rattle.history.proofs.Updates.{by-test}
 use Rattle.trace.specs.Apply.{headersAfter, cellsAfter, logClient, logWord, standingClient, standingWord}
-use Rattle.trace.specs.Play.{worldOf, plainOutcome, afterOutcome}
+use Rattle.trace.specs.declared.decode.Decoded.{Decoded}
+use Rattle.trace.specs.Play.{decoded, worldOf, plainOutcome, afterOutcome}
 
 -- R2.14: a call of a client that there is none is refused, whatever records it is given
 pub no-client :
@@ -44,6 +45,31 @@ no-client (Call.TakeOver c) b eras given h = rw (le-ltb c 8 h)
 no-client (Call.RescueStep c) b eras given h = rw (le-ltb c 8 h)
 no-client (Call.RescuerFails c) b eras given h = rw (le-ltb c 8 h)
 no-client (Call.LookUp c k) b eras given h = rw (le-ltb c 8 h)
+
+-- the client that a record names, where it asks for a call
+abbrev nameIn : Decoded → ℕ → ℕ
+nameIn (Decoded.Known call) c = clientOf call
+nameIn Decoded.Unknown c = c
+
+names : (call c k s : ℕ) → nameIn (decoded call c k s) c ≡ c
+unfolding decoded
+names zero c k s = refl
+names (suc zero) c k s = refl
+names (suc (suc zero)) c k s = refl
+names (suc (suc (suc zero))) c k s = refl
+names (suc (suc (suc (suc zero)))) c k s = refl
+names (suc (suc (suc (suc (suc zero))))) c k s = refl
+names (suc (suc (suc (suc (suc (suc zero)))))) c k s = refl
+names (suc (suc (suc (suc (suc (suc (suc zero))))))) c k s = refl
+names (suc (suc (suc (suc (suc (suc (suc (suc zero)))))))) c k s = refl
+names (suc (suc (suc (suc (suc (suc (suc (suc (suc zero))))))))) c k s = refl
+names (suc (suc (suc (suc (suc (suc (suc (suc (suc (suc zero)))))))))) c k s = refl
+names (suc (suc (suc (suc (suc (suc (suc (suc (suc (suc (suc zero))))))))))) c k s = refl
+names (suc (suc (suc (suc (suc (suc (suc (suc (suc (suc (suc (suc n)))))))))))) c k s = refl
+
+-- R5.1: a call that a record asks for is one of the client that its second byte names
+pub named : (call c k s : ℕ) (asked : Call) → decoded call c k s ≡ Decoded.Known asked → clientOf asked ≡ c
+named call c k s asked e = sym (ap (λ (d : Decoded). nameIn d c) e) ∙ names call c k s
 
 module _ (headers bytes : List ℕ) (logs : List LogWord) (standings : List StandingWord) where
   -- a store applied kind by kind

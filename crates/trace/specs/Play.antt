@@ -1,9 +1,9 @@
 -- Playing a file (Part 5): records of four bytes, a line for each, and the slots in use at the end.
-use Prim.Native.Nat.{ℕ, zero, suc, _+_, _*_, _≤_, _<_}
-use mathlib.Core.Bool.{cond}
+use Prim.Native.Nat.{ℕ, zero, suc, _+_, _-_, _*_, _≤_}
+use mathlib.Core.Bool.{Bool, true, false, cond}
 use mathlib.Core.List.{List, [], _∷_, _++_}
 use mathlib.Core.Path.{_≡_}
-use lib.Dec.{eqb}
+use lib.Dec.{eqb, ltb}
 use lib.ListN.{getD, length, take}
 use Rattle.numbers.specs.Answers.{numberOf}
 use Rattle.numbers.specs.declared.answers.Answer.{Answer}
@@ -13,9 +13,11 @@ use Rattle.block.specs.Store.{blockAfter, erasAfter}
 use Rattle.calls.specs.declared.Call.{Call}
 use Rattle.calls.specs.declared.Records.{Records}
 use Rattle.calls.specs.declared.Outcome.{Outcome}
+use Rattle.calls.specs.Checks.{unchanged}
 use Rattle.calls.specs.Calls.{clientOf, plainCall}
 use Rattle.world.specs.World.{World, recordsAt, recordsAfter, fresh, answer, after}
 use Rattle.trace.specs.declared.decode.Decoded.{Decoded}
+use Rattle.trace.specs.declared.Played.{Played}
 use Rattle.trace.specs.Text.{line, slotLine, filled}
 
 -- R5.2: the calls by number, from 0
@@ -39,6 +41,24 @@ known c k s =
 unfoldable pub decoded : ℕ → ℕ → ℕ → ℕ → Decoded
 decoded call c k s = getD (known c k s) call Decoded.Unknown
 
+-- whether a record asks for a step, the call made most
+abbrev pub isStep : Call → Bool
+isStep (Call.Join c) = false
+isStep (Call.Leave c) = false
+isStep (Call.Lease c k s) = false
+isStep (Call.Attach c k s) = false
+isStep (Call.Release c k) = false
+isStep (Call.Step c) = true
+isStep (Call.Fail c) = false
+isStep (Call.TakeOver c) = false
+isStep (Call.RescueStep c) = false
+isStep (Call.RescuerFails c) = false
+isStep (Call.LookUp c k) = false
+
+abbrev pub asksStep : Decoded → Bool
+asksStep (Decoded.Known call) = isStep call
+asksStep Decoded.Unknown = false
+
 -- R5.2: what a record is answered, and the world after it
 abbrev pub told : World → Decoded → Answer
 told w (Decoded.Known call) = answer w call
@@ -59,6 +79,11 @@ afterOutcome w call o =
       eras = erasAfter (o .store) (w .eras);
       records = recordsAfter (w .records) (clientOf call) (o .records);
     }
+
+-- a record's outcome, with its client's records
+abbrev pub outcomeOf : Decoded → Block → List (List ℕ) → Records → Outcome
+outcomeOf (Decoded.Known call) b eras given = plainCall call b eras given
+outcomeOf Decoded.Unknown b eras given = unchanged Answer.NoSuchCall given
 
 abbrev pub plainTold : World → Decoded → Answer
 plainTold w (Decoded.Known call) = plainOutcome w call .answer
@@ -145,21 +170,55 @@ Whole bytes = cut bytes ≡ []
 abbrev pub worldOf : Block → List (List ℕ) → List Records → World
 worldOf block eras records = record { block = block; eras = eras; records = records }
 
--- what a turn of the player leaves: of the input, `read` bytes are played; over the output their text is written, and
--- nothing else; and it stops only where no whole record is left, or the room or the places run short
-pub record Turn (w : World) (n : ℕ) (input out : List ℕ) (left : World) (read written next : ℕ) (exit : List ℕ) : Type 0 where
-  pub read-within : read ≤ length input
-  pub written-within : written ≤ length out
-  pub whole : Whole (take read input)
-  pub text : exit ≡ filled out 0 (plainText w n (take read input))
-  pub count : written ≡ length (plainText w n (take read input))
-  pub world : left ≡ plainWorld w (take read input)
-  pub place : next ≡ n + wholes (take read input)
-  pub stops : read + 4 ≤ length input → written + 42 ≤ length out → n + length input < 18446744073709551616 → ⊥
+-- how many bytes of an input a turn reads: whole records, as long as the longest line has room
+unfoldable pub readBy : (World → Decoded → Answer) → (World → Decoded → World) → World → ℕ → ℕ → List ℕ → ℕ
+readBy told next w n room [] = 0
+readBy told next w n room (call ∷ []) = 0
+readBy told next w n room (call ∷ c ∷ []) = 0
+readBy told next w n room (call ∷ c ∷ k ∷ []) = 0
+readBy told next w n room (call ∷ c ∷ k ∷ s ∷ rest) =
+    cond (ltb room 42)
+    0
+    (readBy told next (next w (decoded call c k s)) (n + 1)
+    (room - length (line n (numberOf (told w (decoded call c k s))))) rest
+    + 4)
 
--- what the end of the player leaves: the text of a cut record and of the slots, where there is room for the longest
+-- the same, and none where the places of an input might not fit 64 bits
+unfoldable pub turnRead : World → ℕ → List ℕ → ℕ → ℕ
+turnRead w n input room =
+    cond (ltb (18446744073709551615 - n) (length input)) 0 (readBy plainTold plainNext w n room input)
+
+-- the bytes that a turn plays
+abbrev pub turnBytes : World → ℕ → List ℕ → ℕ → List ℕ
+turnBytes w n input room = take (turnRead w n input room) input
+
+-- what a turn that has played some bytes of its input hands back
+abbrev pub handedBack : World → ℕ → ℕ → List ℕ → Played
+handedBack w n read bytes =
+    record {
+      block = plainWorld w bytes .block;
+      records = plainWorld w bytes .records;
+      read = read;
+      written = length (plainText w n bytes);
+      place = n + wholes bytes;
+    }
+
+-- what a turn of the player leaves: what it hands back, the matrix, and the output with the text of the bytes played
+-- written over it and nothing else; and what follows for a caller
+pub record Turn (w : World) (n : ℕ) (input out : List ℕ) (r : Played) (eras : List (List ℕ)) (exit : List ℕ) : Type 0 where
+  pub result : r ≡ handedBack w n (turnRead w n input (length out)) (turnBytes w n input (length out))
+  pub matrix : eras ≡ plainWorld w (turnBytes w n input (length out)) .eras
+  pub text : exit ≡ filled out 0 (plainText w n (turnBytes w n input (length out)))
+  pub whole : Whole (turnBytes w n input (length out))
+  pub read-within : r .read ≤ length input
+  pub written-within : r .written ≤ length out
+
+-- what the end of the player writes: the text of a cut record and of the slots, where there is room for the longest
+abbrev pub endWritten : List ℕ → ℕ → List ℕ → ℕ → List ℕ
+endWritten headers n rest room = cond (ltb room (42 + 47 * length headers)) [] (endText headers n rest)
+
+-- what the end of the player leaves, and what follows for a caller
 pub record Ending (headers : List ℕ) (n : ℕ) (rest out : List ℕ) (written : ℕ) (exit : List ℕ) : Type 0 where
+  pub result : written ≡ length (endWritten headers n rest (length out))
+  pub text : exit ≡ filled out 0 (endWritten headers n rest (length out))
   pub written-within : written ≤ length out
-  pub text : 42 + 47 * length headers ≤ length out → exit ≡ filled out 0 (endText headers n rest)
-  pub count : 42 + 47 * length headers ≤ length out → written ≡ length (endText headers n rest)
-  pub no-room : length out < 42 + 47 * length headers → (written ≡ 0) × (exit ≡ out)

@@ -10,7 +10,8 @@ use crate::apply::log_client;
 use crate::apply::log_word;
 use crate::apply::standing_client;
 use crate::apply::standing_word;
-use crate::decode::Decoded;
+use crate::decode::answered;
+use crate::decode::asks_step;
 use crate::decode::decode;
 use crate::ending::put_cut;
 use crate::ending::put_slots;
@@ -18,11 +19,15 @@ use crate::text::put_line;
 use block::Block;
 use block::LogWord;
 use block::StandingWord;
+use block::store::Store;
 use calls::Records;
-use calls::client_of;
-use machine::plain_call;
+use numbers::answers::Answer;
+use stages::Stepped;
+use step_calls::client_step;
 ghost use mathlib.Core.Path.{_≡_};
+ghost use Prim.Native.Nat.{_+_, _<_};
 ghost use lib.ListN.{length};
+ghost use Rattle.calls.specs.Calls.{ofClient};
 ghost use Rattle.trace.specs.Play.{Turn, Ending, worldOf};
 
 // What a turn leaves: the block and the records, how many bytes it read and wrote, and the next record's place.
@@ -32,6 +37,40 @@ pub struct Played {
     pub read: usize,
     pub written: usize,
     pub place: u64,
+}
+
+// Plays whole records of the input, from the block, the matrix and the records given, until none is left or the
+// output has too little room for the longest line. `place` is the place of the first; where the places might run out
+// of their 64 bits, none is played.
+pub fn play_records<'a>(
+    input: &'a [u8],
+    out: &'a mut [u8],
+    place: u64,
+    block: Block,
+    eras: &'a mut [[u32; 8]],
+    records: [Records; 8],
+) -> Played
+    ensures { λ r. ⌜ Turn (worldOf block (now (eras .entry)) records) place (now (input .entry)) (now (out .entry)) r (now (eras .exit)) (now (out .exit)) ⌝ }
+{
+    if u64::MAX - place < input.len() as u64 {
+        return Played {
+            block,
+            records,
+            read: 0,
+            written: 0,
+            place,
+        };
+    }
+    play_all(input, out, place, block, eras, records)
+}
+
+// The records of a client after its step: its own as handed back, and its rescuer's.
+fn with_client(stepped: Stepped, records: Records) -> Records
+    ensures { λ r. ⌜ r ≡ ofClient stepped records .records ⌝ }
+{
+    let client = stepped.next;
+    let rescuer = records.rescuer;
+    Records { client, rescuer }
 }
 
 // The logs are eight: a fact for a caller's proof, and no code.
@@ -44,10 +83,9 @@ fn eight_standings(standings: [StandingWord; 8])
     ensures { λ _. ⌜ length standings ≡ 8 ⌝ }
 {}
 
-// Plays whole records of the input, from the block, the matrix and the records given, until none is left or the
-// output has too little room for the longest line. `place` is the place of the first. The words stand in locals and
-// each store is applied in place; a client that there is none is refused, so its record may be anyone's.
-pub fn play_records<'a>(
+// The same, where the places fit. The words stand in locals and each store is applied in place. A client that there is
+// none is refused, so its record may be anyone's. A step, the call made most, is given the client's record alone.
+fn play_all<'a>(
     input: &'a [u8],
     out: &'a mut [u8],
     place: u64,
@@ -55,17 +93,9 @@ pub fn play_records<'a>(
     eras: &'a mut [[u32; 8]],
     records: [Records; 8],
 ) -> Played
-    ensures { λ r. ⌜ Turn (worldOf block (now (eras .entry)) records) place (now (input .entry)) (now (out .entry)) (worldOf (r .block) (now (eras .exit)) (r .records)) (r .read) (r .written) (r .place) (now (out .exit)) ⌝ }
+    requires { ⌜ place + length (now input) < 18446744073709551616 ⌝ }
+    ensures { λ r. ⌜ Turn (worldOf block (now (eras .entry)) records) place (now (input .entry)) (now (out .entry)) r (now (eras .exit)) (now (out .exit)) ⌝ }
 {
-    if u64::MAX - place < input.len() as u64 {
-        return Played {
-            block,
-            records,
-            read: 0,
-            written: 0,
-            place,
-        };
-    }
     let mut headers = block.headers;
     let mut cells = block.cells;
     let mut logs = block.logs;
@@ -77,19 +107,25 @@ pub fn play_records<'a>(
     let mut written: usize = 0;
     let mut n = place;
     while at + 4 <= input.len() && written + 42 <= out.len() {
-        let decoded = decode(input[at], input[at + 1], input[at + 2], input[at + 3]);
-        at += 4;
-        let Decoded::Known(call) = decoded else {
-            written = put_line(out, written, n, 12);
-            n += 1;
-            continue;
-        };
-        let who = (client_of(call) % 8) as usize;
+        let asked = decode(input[at], input[at + 1], input[at + 2], input[at + 3]);
+        let who = (input[at + 1] % 8) as usize;
         let mine = held[who];
-        let o = plain_call(call, &headers, &cells, logs, standings, &*eras, mine);
-        let next = o.records;
-        held[who] = next;
-        let store = o.store;
+        let mut store = Store::Nothing;
+        let mut answer = Answer::Accepted;
+        if asks_step(asked) {
+            let client = mine.client;
+            let s = client_step(input[at + 1] as u64, standings, &headers, &*eras, client);
+            let next = with_client(s, mine);
+            held[who] = next;
+            store = s.store;
+            answer = s.answer;
+        } else {
+            let o = answered(asked, &headers, &cells, logs, standings, &*eras, mine);
+            let next = o.records;
+            held[who] = next;
+            store = o.store;
+            answer = o.answer;
+        }
         apply(store, &mut headers, &mut cells, &mut *eras);
         let logger = log_client(store);
         if logger < 8 {
@@ -101,8 +137,8 @@ pub fn play_records<'a>(
             let word = standing_word(store);
             standings[turner] = word;
         }
-        let answer = o.answer;
         written = put_line(out, written, n, answer.number());
+        at += 4;
         n += 1;
     }
     Played {

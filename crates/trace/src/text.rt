@@ -1,112 +1,74 @@
 // Lines of text, written straight into the output.
 ghost use mathlib.Core.Path.{_≡_};
-ghost use mathlib.Core.List.{_∷_, _++_};
-ghost use Prim.Native.Nat.{_+_, _≤_};
-ghost use lib.ListN.{length, take, drop};
-ghost use Rattle.trace.specs.Text.{spelled, width, decimal, line, slotLine, Put};
+ghost use mathlib.Core.List.{[]};
+ghost use Prim.Native.Nat.{_+_, _≤_, _<_};
+ghost use lib.ListN.{length};
+ghost use Rattle.trace.specs.Text.{spelled, decimal, line, slotLine, filled, Put};
 
-// How many decimal digits a number has: it is held against the powers of ten.
-fn width(n: u64) -> usize
-    ensures { λ r. ⌜ (r ≡ width n) × (1 ≤ r) × (r ≤ 20) ⌝ }
+// The four digits of a number below ten thousand, at `at` of the output.
+fn put_four(out: &mut [u8], at: usize, n: u32)
+    requires { ⌜ (n < 10000) × (at + 4 ≤ length (now out)) ⌝ }
+    ensures { λ _. ⌜ now (out .exit) ≡ filled (now (out .entry)) at (spelled 4 n []) ⌝ }
+{
+    let high = n / 100;
+    let low = n % 100;
+    out[at + 3] = (48 + low % 10) as u8;
+    out[at + 2] = (48 + low / 10) as u8;
+    out[at + 1] = (48 + high % 10) as u8;
+    out[at] = (48 + high / 10) as u8;
+}
+
+// A number below ten thousand in decimal, at `at` of the output. Answers where its digits end.
+fn put_short(out: &mut [u8], at: usize, n: u32) -> usize
+    requires { ⌜ (n < 10000) × (at + 4 ≤ length (now out)) ⌝ }
+    ensures { λ r. ⌜ Put (now (out .entry)) at (decimal n) (now (out .exit)) r × (r ≤ at + 4) ⌝ }
 {
     if n < 10 {
-        return 1;
+        out[at] = (48 + n) as u8;
+        return at + 1;
     }
     if n < 100 {
-        return 2;
+        out[at] = (48 + n / 10) as u8;
+        out[at + 1] = (48 + n % 10) as u8;
+        return at + 2;
     }
     if n < 1000 {
-        return 3;
+        out[at] = (48 + n / 100) as u8;
+        out[at + 1] = (48 + n / 10 % 10) as u8;
+        out[at + 2] = (48 + n % 10) as u8;
+        return at + 3;
     }
+    put_four(out, at, n);
+    at + 4
+}
+
+// `n` in decimal, its last four digits after all the others. Answers where its digits end.
+fn put_by_four(out: &mut [u8], at: usize, n: u64) -> usize
+    requires { ⌜ at + 20 ≤ length (now out) ⌝ }
+    ensures { λ r. ⌜ Put (now (out .entry)) at (decimal n) (now (out .exit)) r × (r ≤ at + 20) ⌝ }
+{
     if n < 10000 {
-        return 4;
+        return put_short(out, at, n as u32);
     }
-    if n < 100000 {
-        return 5;
-    }
-    if n < 1000000 {
-        return 6;
-    }
-    if n < 10000000 {
-        return 7;
-    }
-    if n < 100000000 {
-        return 8;
-    }
-    if n < 1000000000 {
-        return 9;
-    }
-    if n < 10000000000 {
-        return 10;
-    }
-    if n < 100000000000 {
-        return 11;
-    }
-    if n < 1000000000000 {
-        return 12;
-    }
-    if n < 10000000000000 {
-        return 13;
-    }
-    if n < 100000000000000 {
-        return 14;
-    }
-    if n < 1000000000000000 {
-        return 15;
-    }
-    if n < 10000000000000000 {
-        return 16;
-    }
-    if n < 100000000000000000 {
-        return 17;
-    }
-    if n < 1000000000000000000 {
-        return 18;
-    }
-    if n < 10000000000000000000 {
-        return 19;
-    }
-    20
+    let end = put_by_four(out, at, n / 10000);
+    put_four(out, end, (n % 10000) as u32);
+    end + 4
 }
 
-// The last four digits of `n`, at `at` of the output.
-fn put_four(out: &mut [u8], at: usize, n: u32)
-    requires { ⌜ at + 4 ≤ length (now out) ⌝ }
-    ensures { λ _. ⌜ now (out .exit) ≡ take at (now (out .entry)) ++ spelled 4 n (drop (at + 4) (now (out .entry))) ⌝ }
-{
-    out[at + 3] = (48 + n % 10) as u8;
-    out[at + 2] = (48 + n / 10 % 10) as u8;
-    out[at + 1] = (48 + n / 100 % 10) as u8;
-    out[at] = (48 + n / 1000 % 10) as u8;
-}
-
-// The last `k` digits of `n`, at `at` of the output, from the right: four at a time, and then one.
-fn put_digits(out: &mut [u8], at: usize, k: usize, n: u64)
-    requires { ⌜ at + k ≤ length (now out) ⌝ }
-    ensures { λ _. ⌜ now (out .exit) ≡ take at (now (out .entry)) ++ spelled k n (drop (at + k) (now (out .entry))) ⌝ }
-{
-    let mut i = k;
-    let mut rest = n;
-    while 4 <= i {
-        i -= 4;
-        put_four(out, at + i, (rest % 10000) as u32);
-        rest /= 10000;
-    }
-    while 0 < i {
-        i -= 1;
-        out[at + i] = (48 + rest % 10) as u8;
-        rest /= 10;
-    }
-}
-
-// `n` in decimal, at `at` of the output. Answers where its digits end.
+// The same, with no call of itself for up to eight digits.
 fn put_decimal(out: &mut [u8], at: usize, n: u64) -> usize
     requires { ⌜ at + 20 ≤ length (now out) ⌝ }
     ensures { λ r. ⌜ Put (now (out .entry)) at (decimal n) (now (out .exit)) r × (r ≤ at + 20) ⌝ }
 {
-    let k = width(n);
-    put_digits(out, at, k, n);
-    at + k
+    if n < 10000 {
+        return put_short(out, at, n as u32);
+    }
+    if 100000000 <= n {
+        return put_by_four(out, at, n);
+    }
+    let end = put_short(out, at, (n / 10000) as u32);
+    put_four(out, end, (n % 10000) as u32);
+    end + 4
 }
 
 // A record's line, at `at` of the output. Answers where it ends.

@@ -1,21 +1,20 @@
 -- `trace::play_end` meets its contract: what it returns computes to the definition.
 -- Assumes nothing.
-use mathlib.Core.Path.{refl}
 use native.Mathlib.Omega.{arith}
 use Rattle.trace.proofs.Filling.{put-then, put-length}
-use Rattle.trace.proofs.Slots.{ending}
+use Rattle.trace.proofs.Slots.{ending, no-ending}
 use borrow.Author.Needs.{needs}
 use Rattle.trace.proofs.play_end.Statement.{statement}
 use Rattle.trace.proofs.play_end.Tie as tie
 
 returns : tie.Need-returns
-returns c = record { written-within = omega arith; text = λ h. absurd (omega arith); count = λ h. absurd (omega arith); no-room = λ h. (refl, refl) }
+returns c = no-ending (omega arith)
 
 sub-if2 : tie.Need-sub-if2
 sub-if2 c = search needs
 
 returns-2 : tie.Need-returns-2
-returns-2 c = record { written-within = omega arith; text = λ h. absurd (omega arith); count = λ h. absurd (omega arith); no-room = λ h. (refl, refl) }
+returns-2 c = no-ending (omega arith)
 
 put-cut-requires : tie.Need-put-cut-requires
 put-cut-requires c κs = search needs

@@ -1,44 +1,70 @@
--- `trace::text::put_decimal` meets its contract: what it returns computes to the definition.
+-- `trace::text::put_decimal` meets its contract: the last four digits are put after the others.
 -- Assumes nothing.
-use mathlib.Core.Path.{_∙_, sym, ap}
 use native.Mathlib.Omega.{arith}
-use denote.Ref.{now}
-use Prim.Native.Nat.{ℕ, _+_}
-use mathlib.Core.List.{_++_}
-use lib.ListN.{take, drop}
-use Rattle.trace.specs.Text.{spelled}
-use Rattle.trace.proofs.Filling.{decimal-length, decimal-filled}
+use Rattle.trace.proofs.Widths.{four-after}
 use borrow.Author.Needs.{needs}
 use Rattle.trace.proofs.text.put_decimal.Statement.{statement}
 use Rattle.trace.proofs.text.put_decimal.Tie as tie
 
-width-requires : tie.Need-width-requires
-width-requires c κs = search needs
+cast-put-short : tie.Need-cast-put-short
+cast-put-short c = search needs
 
-put-digits-requires : tie.Need-put-digits-requires
-put-digits-requires c κs = search needs
-
-add-result : tie.Need-add-result
-add-result c = search needs
+put-short-requires : tie.Need-put-short-requires
+put-short-requires c κs = search needs
 
 same-length : tie.Need-same-length
 same-length c = search needs
 
 returns : tie.Need-returns
-returns c =
-    let a = c .before .before .before .before .before .before .args in
-    let e = c .before .before .before .before .width .ensures .0 in
-    let l = decimal-length (a .n) in (
-      record {
-        ends = omega arith;
-        fills =
-            c .before .before .put-digits .ensures
-            ∙ ap (λ (k : ℕ). take (a .at) (now (a .out)) ++ spelled k (a .n) (drop (a .at + k) (now (a .out)))) e
-            ∙ decimal-filled (now (a .out)) (a .at) (a .n);
-      },
-      search needs,
-    )
+returns c = search needs
+
+put-by-four-requires : tie.Need-put-by-four-requires
+put-by-four-requires c κs = search needs
+
+same-length-2 : tie.Need-same-length-2
+same-length-2 c = search needs
+
+returns-2 : tie.Need-returns-2
+returns-2 c = search needs
+
+cast-put-short-2 : tie.Need-cast-put-short-2
+cast-put-short-2 c = search needs
+
+put-short-requires-2 : tie.Need-put-short-requires-2
+put-short-requires-2 c κs = search needs
+
+cast-put-four : tie.Need-cast-put-four
+cast-put-four c = search needs
+
+put-four-requires : tie.Need-put-four-requires
+put-four-requires c κs = search needs
+
+add-result : tie.Need-add-result
+add-result c = search needs
+
+same-length-3 : tie.Need-same-length-3
+same-length-3 c = search needs
+
+returns-3 : tie.Need-returns-3
+returns-3 c =
+    four-after (c .before .before .before .before .before .before .before .before .before .before .before .args .n) (omega arith) (omega arith) (omega arith) (c .before .before .before .before .before .before .put-short2 .ensures .0)
+    (c .before .before .put-four .ensures)
 
 pub put-decimal-spec : {M : Type 1} → statement M
 put-decimal-spec =
-    tie.close (tie.spec width-requires put-digits-requires add-result same-length returns)
+    tie.close
+    (tie.spec
+    cast-put-short
+    put-short-requires
+    same-length
+    returns
+    put-by-four-requires
+    same-length-2
+    returns-2
+    cast-put-short-2
+    put-short-requires-2
+    cast-put-four
+    put-four-requires
+    add-result
+    same-length-3
+    returns-3)

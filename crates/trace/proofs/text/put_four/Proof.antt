@@ -2,7 +2,9 @@
 -- Assumes nothing.
 use lib.ListN.{length-set}
 use native.Mathlib.Omega.{arith}
+use mathlib.Core.Path.{_∙_}
 use Rattle.trace.proofs.Spelling.{four}
+use Rattle.trace.proofs.Filling.{spelled-filled}
 use denote.Ref.{now}
 use borrow.Author.Needs.{needs}
 use Rattle.trace.proofs.text.put_four.Statement.{statement}
@@ -57,7 +59,9 @@ same-length : tie.Need-same-length
 same-length c = search needs
 
 returns : tie.Need-returns
-returns c = four (now (c .args .out)) (c .args .at) (c .args .n) (c .pre)
+returns c =
+    four (now (c .args .out)) (c .args .at) (c .args .n) (c .pre .0) (c .pre .1)
+    ∙ spelled-filled (now (c .args .out)) (c .args .at) 4 (c .args .n)
 
 pub put-four-spec : {M : Type 1} → statement M
 put-four-spec =

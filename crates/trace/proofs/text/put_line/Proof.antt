@@ -1,8 +1,8 @@
--- `trace::text::put_line` meets its contract: what it returns computes to the definition.
+-- `trace::text::put_line` meets its contract: the line is put part by part.
 -- Assumes nothing.
 use native.Mathlib.Omega.{arith}
 use lib.ListN.{length-set}
-use Rattle.trace.proofs.Filling.{put-one, put-then, put-length, line-parts}
+use Rattle.trace.proofs.Filling.{put-length, number-length, line-put, line-length}
 use borrow.Author.Needs.{needs}
 use Rattle.trace.proofs.text.put_line.Statement.{statement}
 use Rattle.trace.proofs.text.put_line.Tie as tie
@@ -24,13 +24,9 @@ put-decimal-requires-2 c κs =
 
 slice-write-out-2 : tie.Need-slice-write-out-2
 slice-write-out-2 c =
-    let a = c .before .before .before .before .before .before .before .before .before .args in
     let p = c .before .before .before .before .before .before .put-decimal .ensures in
     let q = c .before .before .put-decimal2 .ensures in
-    let l = put-length (p .0) (search needs) in
-    let p2 = put-then (p .0) (put-one _ _ 32 (omega arith)) (omega arith) in
-    let p3 = put-then p2 (q .0) (omega arith) in
-    let l3 = put-length p3 (omega arith) in
+    let l = number-length (c .before .before .before .before .before .before .before .before .before .args .place) (c .before .before .before .before .before .before .before .before .before .args .number) (search needs) (p .0) (p .1) (q .0) (q .1) in
     omega arith
 
 add-result : tie.Need-add-result
@@ -38,26 +34,15 @@ add-result c = search needs
 
 same-length : tie.Need-same-length
 same-length c =
-    let a = c .before .before .before .before .before .before .before .before .before .args in
     let p = c .before .before .before .before .before .before .put-decimal .ensures in
     let q = c .before .before .put-decimal2 .ensures in
-    let l = put-length (p .0) (search needs) in
-    let p2 = put-then (p .0) (put-one _ _ 32 (omega arith)) (omega arith) in
-    let p3 = put-then p2 (q .0) (omega arith) in
-    let l3 = put-length p3 (omega arith) in
-    put-length (put-then p3 (put-one _ _ 10 (omega arith)) (omega arith)) (omega arith)
+    line-length (c .before .before .before .before .before .before .before .before .before .args .place) (c .before .before .before .before .before .before .before .before .before .args .number) (search needs) (p .0) (p .1) (q .0) (q .1)
 
 returns : tie.Need-returns
 returns c =
-    let a = c .before .before .before .before .before .before .before .before .before .args in
     let p = c .before .before .before .before .before .before .put-decimal .ensures in
     let q = c .before .before .put-decimal2 .ensures in
-    let l = put-length (p .0) (search needs) in
-    let p2 = put-then (p .0) (put-one _ _ 32 (omega arith)) (omega arith) in
-    let p3 = put-then p2 (q .0) (omega arith) in
-    let l3 = put-length p3 (omega arith) in
-    let p4 = put-then p3 (put-one _ _ 10 (omega arith)) (omega arith) in
-    (rw line-parts at p4, omega arith)
+    (line-put (c .before .before .before .before .before .before .before .before .before .args .place) (c .before .before .before .before .before .before .before .before .before .args .number) (search needs) (p .0) (p .1) (q .0) (q .1), omega arith)
 
 pub put-line-spec : {M : Type 1} → statement M
 put-line-spec =

@@ -1,0 +1,29 @@
+-- `trace::decode::answered` meets its contract: a known call is made, and none is answered 12.
+-- Assumes nothing.
+use mathlib.Core.Path.{_∙_}
+use borrow.Author.Needs.{needs}
+use Rattle.trace.proofs.decode.answered.Statement.{statement}
+use Rattle.trace.proofs.decode.answered.Tie as tie
+
+enum-known-asked : tie.Need-enum-known-asked
+enum-known-asked c = search needs
+
+enum-told : tie.Need-enum-told
+enum-told c = search needs
+
+unchanged-requires : tie.Need-unchanged-requires
+unchanged-requires c κs = search needs
+
+returns : tie.Need-returns
+returns c = c .unchanged .ensures ∙ rw (c .before .enum-told .given .1)
+
+plain-call-requires : tie.Need-plain-call-requires
+plain-call-requires c κs = search needs
+
+returns-2 : tie.Need-returns-2
+returns-2 c = c .plain-call .ensures ∙ rw (c .before .before .asked .given .1)
+
+pub answered-spec : {M : Type 1} → statement M
+answered-spec =
+    tie.close
+    (tie.spec enum-known-asked enum-told unchanged-requires returns plain-call-requires returns-2)
