@@ -1,10 +1,14 @@
 # Scenario text (docs/SCENARIOS.md) in; out, by -v what=WHAT:
 #   records   the records in hex, one a line; this where nothing is asked
+#   given     the own eras that the block is given with, 00000001 where nothing is said of them, then the records
 #   expects   LINE PLACE ANSWER for each call that is expected to answer so
 #   sweep     the victim's opening record, the other's (00000000 where there is none), then those of the set-up
 # The first mistake is told on standard error, under the name that the environment gives in `shown`; nothing else is
 # printed then, and the status is 2. Comes after names.awk.
-BEGIN { if (what == "") what = "records" }
+BEGIN {
+    CONVFMT = "%.0f"
+    if (what == "") what = "records"
+}
 
 {
     sub(/#.*/, "")
@@ -19,6 +23,7 @@ BEGIN { if (what == "") what = "records" }
 END {
     if (refused) exit 2
     line = NR + 1
+    if (what == "given") print_eras()
     if (what == "sweep") print_swept()
     if (what == "expects") print_expects()
     else print_records()
@@ -26,10 +31,21 @@ END {
 
 # One line that is not blank, by its first word.
 function statement() {
-    if (word[1] == "expect") expectation()
+    if (word[1] == "own") own_eras()
+    else if (word[1] == "expect") expectation()
     else if (word[1] == "victim" || word[1] == "other") swept(word[at++])
     else plain_call()
     if (at <= words) mistake("the end of the line")
+}
+
+# The own eras of a given block, ahead of its calls.
+function own_eras() {
+    if (what == "records" || what == "sweep") refuse("expected a call: 'own eras' is for ./medvulya watch and draw")
+    if (made || given_eras != "") refuse("expected one 'own eras', above every call")
+    at++
+    if (word[at] != "eras") mistake("eras")
+    at++
+    given_eras = number_at("an era", 1, 4294967295)
 }
 
 # A line that makes records.
@@ -39,7 +55,7 @@ function plain_call() {
     if (word[1] == "record") whole_record()
     else if (word[1] == "cut") cut_record()
     else if (word[1] ~ /^[0-9]+$/) client_call()
-    else mistake("a client number from 0 to 255 or one of record, cut, expect, victim, other")
+    else mistake("a client number from 0 to 255 or one of own, record, cut, expect, victim, other")
 }
 
 # CLIENT and a call in words.
@@ -168,6 +184,12 @@ function refuse(text) {
     close("cat >&2")
     refused = 1
     exit 2
+}
+
+# The own eras of the given block; by halves, since not every awk prints 32 bits in hex.
+function print_eras() {
+    if (given_eras == "") given_eras = 1
+    printf "%04X%04X\n", int(given_eras / 65536), given_eras % 65536
 }
 
 # The two opening records of a sweep.

@@ -80,9 +80,19 @@ pub(crate) fn fresh_scene() -> Scene {
     scene_with(fresh_eras())
 }
 
-// Before the first call, where own eras start at 0: the trap of that name, which the limits shut out.
-pub(crate) fn trapped_scene() -> Scene {
-    scene_with([[0u32; 8]; 8])
+// A block given with all own eras alike and nothing done: fresh but for the era. At 0 it is the trap of that name, which the
+// limits shut out.
+pub(crate) fn given_scene(era: u32) -> Scene {
+    scene_with([
+        [era, 0, 0, 0, 0, 0, 0, 0],
+        [0, era, 0, 0, 0, 0, 0, 0],
+        [0, 0, era, 0, 0, 0, 0, 0],
+        [0, 0, 0, era, 0, 0, 0, 0],
+        [0, 0, 0, 0, era, 0, 0, 0],
+        [0, 0, 0, 0, 0, era, 0, 0],
+        [0, 0, 0, 0, 0, 0, era, 0],
+        [0, 0, 0, 0, 0, 0, 0, era],
+    ])
 }
 
 impl Scene {

@@ -16,7 +16,7 @@ use crate::placement::one_more;
 use crate::print;
 use crate::scene::Scene;
 use crate::scene::fresh_scene;
-use crate::scene::trapped_scene;
+use crate::scene::given_scene;
 use block::header_at;
 use calls::Call;
 use calls::client_of;
@@ -456,7 +456,7 @@ pub(crate) fn sweep(trapped: bool) {
         parts: 0,
     };
     let begin = if trapped {
-        trapped_scene()
+        given_scene(0)
     } else {
         fresh_scene()
     };

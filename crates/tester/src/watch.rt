@@ -8,7 +8,7 @@ use crate::doing::is_rescue_step;
 use crate::doing::performed;
 use crate::print;
 use crate::scene::Scene;
-use crate::scene::fresh_scene;
+use crate::scene::given_scene;
 use crate::words::header_value;
 use crate::words::standing_of;
 use crate::words::standing_value;
@@ -223,9 +223,23 @@ fn told(place: u64, bytes: [u8; 4], scene: Scene) -> Scene {
     scene.after(call, outcome)
 }
 
-// Plays the records of standard input from a fresh block and tells each, while standard output takes it.
-pub(crate) fn watch() {
-    let mut scene = fresh_scene();
+// Four bytes as an era, high byte first.
+fn era_in(first: u8, second: u8, third: u8, fourth: u8) -> u32 {
+    first as u32 * 16777216 + second as u32 * 65536 + third as u32 * 256 + fourth as u32
+}
+
+// Reads the own eras that the block is given with ahead of the records, and watches those.
+pub(crate) fn watch_given() {
+    let mut bytes = [0u8; 4];
+    let n = io::read_full(STDIN_FILENO, &mut bytes);
+    if n == 4 {
+        watch(given_scene(era_in(bytes[0], bytes[1], bytes[2], bytes[3])));
+    }
+}
+
+// Plays the records of standard input and tells each, while standard output takes it.
+pub(crate) fn watch(begin: Scene) {
+    let mut scene = begin;
     let mut place: u64 = 0;
     let mut bytes = [0u8; 4];
     while place < u64::MAX {

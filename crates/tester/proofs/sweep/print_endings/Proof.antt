@@ -1,8 +1,7 @@
+-- `tester::sweep::print_endings` is safe and ends: its loop has a number that falls.
+-- Assumes nothing.
 use Prim.Native.Nat.{_≤_, _-_}
-use mathlib.Core.Path.{_≡_}
-use lib.ListN.{length}
 use borrow.Author.Needs.{needs}
-use native.Mathlib.Omega.{arith}
 use Rattle.tester.proofs.sweep.print_endings.Statement.{statement}
 use Rattle.tester.proofs.sweep.print_endings.Tie as tie
 

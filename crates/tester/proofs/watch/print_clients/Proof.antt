@@ -1,8 +1,7 @@
+-- `tester::watch::print_clients` is safe and ends: its loop has a number that falls.
+-- Assumes nothing.
 use Prim.Native.Nat.{_≤_, _-_}
-use mathlib.Core.Path.{_≡_}
-use lib.ListN.{length}
 use borrow.Author.Needs.{needs}
-use native.Mathlib.Omega.{arith}
 use Rattle.tester.proofs.watch.print_clients.Statement.{statement}
 use Rattle.tester.proofs.watch.print_clients.Tie as tie
 

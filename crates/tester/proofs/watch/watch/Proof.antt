@@ -1,8 +1,9 @@
-use Prim.Native.Nat.{_≤_, _-_}
+-- `tester::watch::watch` is safe and ends: its loop has a number that falls.
+-- Assumes nothing.
+use Prim.Native.Nat.{_-_}
 use mathlib.Core.Path.{_≡_}
 use lib.ListN.{length}
 use borrow.Author.Needs.{needs}
-use native.Mathlib.Omega.{arith}
 use Rattle.tester.proofs.watch.watch.Statement.{statement}
 use Rattle.tester.proofs.watch.watch.Tie as tie
 
@@ -11,9 +12,6 @@ Inv-loop scene₀ place₀ bytes₀ scene place bytes = length bytes ≡ 4
 
 abbrev μ-loop : tie.MeasureT-loop
 μ-loop scene₀ place₀ bytes₀ scene place bytes = 18446744073709551615 - place
-
-fresh-scene-requires : tie.Need-fresh-scene-requires Inv-loop μ-loop
-fresh-scene-requires c κs = search needs
 
 loop-holds : tie.Need-loop-holds Inv-loop μ-loop
 loop-holds c = search needs
@@ -57,7 +55,6 @@ watch-spec =
     (tie.spec
     Inv-loop
     μ-loop
-    fresh-scene-requires
     loop-holds
     add-place
     slice-aggregate-read-full

@@ -1,8 +1,7 @@
+-- `tester::endings::Endings::place` is safe and ends: its loop has a number that falls.
+-- Assumes nothing.
 use Prim.Native.Nat.{_≤_, _-_}
-use mathlib.Core.Path.{_≡_}
-use lib.ListN.{length}
 use borrow.Author.Needs.{needs}
-use native.Mathlib.Omega.{arith}
 use Rattle.tester.proofs.endings.Endings.place.Statement.{statement}
 use Rattle.tester.proofs.endings.Endings.place.Tie as tie
 
