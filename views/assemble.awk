@@ -45,7 +45,7 @@ function own_eras() {
     at++
     if (word[at] != "eras") mistake("eras")
     at++
-    given_eras = number_at("an era", 1, 4294967295)
+    given_eras = number_at("an era", 0, 4294967295)
 }
 
 # A line that makes records.

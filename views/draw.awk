@@ -177,9 +177,10 @@ function look_mark(x, y, sign) {
     return box_at(x, y, 20, 16, 6, "fill=\"#fff4c2\" stroke=\"#8a6d00\"") sign_at(x, y, sign, INK, 0)
 }
 
-# Small text above a mark.
-function above(x, y, text, colour) {
-    return text_at(x, y - 12, text, "middle", colour, 11)
+# A short word above a mark; a long one ends at the mark, so that it leaves the next one room.
+function above(x, y, text, colour,    is_long) {
+    is_long = length(text) > 5
+    return text_at(is_long ? x + 6 : x, y - 12, text, is_long ? "end" : "middle", colour, 11)
 }
 
 # Small text below a mark.

@@ -25,6 +25,12 @@ function span(from, to) {
     return from == to ? from : from " to " to
 }
 
+# What became of the victim's operation: after its era it was over before the rescue began.
+function completed(steps, by_rescue) {
+    if (by_rescue) return "yes"
+    return steps == 6 ? "was over" : "no"
+}
+
 # After which step the victim died.
 function died_after(steps) {
     return steps == 0 ? "0 (opened)" : steps " (" STAGES[steps] ")"
@@ -43,7 +49,7 @@ function add_ending(key, runs, least, most) {
 
 $1 == "refused" { refused = $2; answer = $3 }
 $1 == "section" {
-    row[++rows] = sprintf("%-38s  %-28s  %10s  %12s  %9s", deaths($2), placed($3), $4, $5, $6)
+    section[++sections] = sprintf("%-38s  %-28s  %10s  %12s  %9s", deaths($2), placed($3), $4, $5, $6)
     total += $4
     differing += $6
     if ($7) too_long = 1
@@ -59,7 +65,7 @@ function put_endings(    step, i, part) {
         for (i = 1; i <= endings; i++) {
             split(ending[i], part, " ")
             if (part[1] != step) continue
-            printf "%-18s  %-10s  %5s  %8s  %10s  %s\n", died_after(step), part[2] ? "yes" : "no", part[3], part[4],
+            printf "%-18s  %-10s  %5s  %8s  %10s  %s\n", died_after(step), completed(step, part[2]), part[3], part[4],
                 runs_of[ending[i]], span(least_of[ending[i]], most_of[ending[i]])
         }
 }
@@ -79,10 +85,10 @@ END {
         print "medvulya: after the set-up the " (refused == 1 ? "victim" : "other host") "'s opening is answered " answer ", so there is nothing to sweep" | "cat >&2"
         exit 2
     }
-    if (!rows) exit 2
+    if (!sections) exit 2
     if (about != "") print about "\n"
     printf "%-38s  %-28s  %10s  %12s  %9s\n", "killed", "the other host's operation", "runs", "calls", "differing"
-    for (i = 1; i <= rows; i++) print row[i]
+    for (i = 1; i <= sections; i++) print section[i]
     put_endings()
     if (too_long) print "\nsome runs make more choices than are gone through: not every placement was played"
     put_verdict()

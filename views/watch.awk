@@ -14,6 +14,7 @@ function put_call(at, by, what, did, wrote, answered) {
 is_call() {
     if (!calls++) put_call("place", "who", "call", "stage or step", "word written: old -> present", "answer")
     take($0)
+    named[client] = 1
     put_call(place, who(), call_words(), step_words(), word_written(), answer_words())
     next
 }
@@ -49,12 +50,12 @@ function open_words(code, of_kind, of_cell, of_slot) {
     return "rescue" (of_kind ? " of " operation_words(of_kind, of_cell, of_slot) : "") ", next " step_name(code)
 }
 
-# Each client that is not absent or has anything to tell.
+# Each client that a call has named, or that is not absent.
 function put_clients(    i, part, open) {
     printf "\n%6s  %-9s  %10s  %-50s  %s\n", "client", "standing", "own era", "open operation", "entries"
     for (i = 1; i <= client_rows; i++) {
         split(clients[i], part, " ")
-        if (part[3] == 0 && part[4] == 1 && part[5] == 0 && !(part[2] in entries)) continue
+        if (part[3] == 0 && !(part[2] in named) && !(part[2] in entries)) continue
         open = open_words(part[5], part[6] + 0, part[7], part[8])
         put_list(sprintf("%6s  %-9s  %10s  %-50s  ", part[2], STANDINGS[part[3] + 0], part[4], open), entries[part[2]])
     }
