@@ -54,7 +54,8 @@ fn due_answer(slot: u8, phase: u8) -> u64 {
     if phase == 1 { 200 + slot as u64 } else { 199 }
 }
 
-// (b) A look up of line `at` answers what the ledger has; one of a client that does not run is refused and says nothing.
+// (b) A look up of line `at` answers what the ledger has; one of a client that does not run is refused, and says
+// nothing.
 fn shows_line(at: usize, scene: Scene) -> bool {
     if 128 <= at {
         return true;

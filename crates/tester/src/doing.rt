@@ -1,5 +1,5 @@
-// What a call performs, in numbers: 1 to 6 a stage of the client, 11 to 16 a step of the rescue, 21 to 26 a stage of the
-// release that the rescuer has opened, and 0 where nothing is under way.
+// What a call performs, in numbers: 1 to 6 a stage of the client, 11 to 16 a step of the rescue, 21 to 26 a stage of
+// the release that the rescuer has opened, and 0 where nothing is under way.
 use block::Entry;
 use block::Kind;
 use block::Operation;

@@ -9,8 +9,8 @@ use calls::Outcome;
 use calls::Records;
 use calls::client_of;
 
-// Each line's slot, 255 where there is none; its phase, 0 swapped, 1 written, 2 its release is open; and for each client
-// that failed, the own era that the end of its rescue must leave.
+// Each line's slot, 255 where there is none; its phase, 0 swapped, 1 written, 2 its release is open; and for each
+// client that failed, the own era that the end of its rescue must leave.
 pub(crate) struct Ledger {
     pub(crate) slots: [u8; 128],
     pub(crate) phases: [u8; 128],

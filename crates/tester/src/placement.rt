@@ -3,12 +3,12 @@
 // their steps, and another host may play its own operation, in so many parts as the placement allows.
 use crate::choices::Choices;
 use calls::Call;
-use trace::decode::Decoded;
-use trace::decode::decode;
+use decode::Decoded;
+use decode::decode;
 ghost use Prim.Native.Nat.{_≤_};
 
-// What is swept: the victim's opening call and the other host's, and how many rescuers may be killed and in how many
-// parts the other host may play.
+// What is swept: the victim's opening call and the other host's, how many rescuers may be killed, in how many parts the
+// other host may play, and whether own eras start at 0.
 pub(crate) struct Plan {
     pub(crate) opening: Call,
     pub(crate) victim: u64,
@@ -18,6 +18,7 @@ pub(crate) struct Plan {
     pub(crate) set_ups: usize,
     pub(crate) kills: u64,
     pub(crate) parts: u64,
+    pub(crate) trapped: bool,
 }
 
 // Who makes the next call.
@@ -99,8 +100,8 @@ impl Progress {
         self.dead && !self.rescued
     }
 
-    // Whether the other host may play: its operation is not over, and this goes on a part or begins one of those allowed.
-    // After the rescue's end it plays what is left.
+    // Whether the other host may play: its operation is not over, and this goes on a part or begins one of those that are
+    // allowed. After the rescue's end it plays what is left.
     fn other_may(self, plan: Plan) -> bool {
         if plan.parts == 0 || !self.dead || self.other == 2 {
             return false;
@@ -206,8 +207,8 @@ impl Progress {
         next
     }
 
-    // After a take over or a rescue step, which performed `step`. What a rescuer completes before any of them has opened a
-    // release is the victim's own operation.
+    // After a take over or a rescue step, which performed `step`. What a rescuer completes before any of them has opened
+    // a release is the victim's own operation.
     fn rescuer_played(self, answer: u64, step: u64) -> Progress {
         let mut next = self;
         next.other_last = false;

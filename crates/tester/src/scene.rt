@@ -1,5 +1,5 @@
-// The world of a run, with its ledger. Each call goes through the proved machine; no history from a fresh block is beyond
-// its limits, so the plain call is the whole one.
+// The world of a run, with its ledger. Each call goes through the proved machine; no history from a fresh block is
+// beyond its limits, so the plain call is the whole one.
 use crate::ledger::Ledger;
 use crate::ledger::no_lines;
 use block::Block;
@@ -80,8 +80,8 @@ pub(crate) fn fresh_scene() -> Scene {
     scene_with(fresh_eras())
 }
 
-// A block given with all own eras alike and nothing done: fresh but for the era. At 0 it is the trap of that name, which the
-// limits shut out.
+// A block given with all own eras alike and nothing done: fresh but for the era. At 0 it is the trap of that name, which
+// the limits shut out.
 pub(crate) fn given_scene(era: u32) -> Scene {
     scene_with([
         [era, 0, 0, 0, 0, 0, 0, 0],

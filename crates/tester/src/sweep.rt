@@ -1,5 +1,5 @@
-// The sweep: every placement of the deaths and of the other host's operation that a section allows, each a run on a fresh
-// block through the proved machine, held to the ledger after every call. The views make the table of its numbers.
+// The sweep: every placement of the deaths and of the other host's operation that a section allows, each a run on a
+// fresh block through the proved machine, held to the ledger after every call. The views make the table of its numbers.
 use crate::agree::Agreement;
 use crate::agree::held_to;
 use crate::choices::Choices;
@@ -25,8 +25,8 @@ use libc::STDERR_FILENO;
 use libc::STDIN_FILENO;
 use numbers::Slot;
 
-// A run: where it stands, its last call, and how it differs from the ledger: 0 not, 1 in a count, 2 in a look up, 3 at the
-// end of the rescue.
+// A run: where it stands, its last call, and how it differs from the ledger: 0 not, 1 in a count, 2 in a look up, 3 at
+// the end of the rescue.
 struct Run {
     scene: Scene,
     progress: Progress,
@@ -42,6 +42,15 @@ struct Kept {
     choices: Choices,
     kills: u64,
     parts: u64,
+}
+
+// What is counted of a run that is over: its ending, its rescue steps and calls, how it differs, and its choices.
+struct Ended {
+    ending: u64,
+    rescue_steps: u64,
+    calls: u64,
+    differs: u64,
+    choices: Choices,
 }
 
 // What a section's runs came to.
@@ -81,10 +90,19 @@ fn difference(agreement: Agreement) -> u64 {
     }
 }
 
+// The world that every run begins in.
+fn scene_of(plan: Plan) -> Scene {
+    if plan.trapped {
+        given_scene(0)
+    } else {
+        fresh_scene()
+    }
+}
+
 // A run before its first call.
-fn run_from(scene: Scene, choices: Choices) -> Run {
+fn run_from(plan: Plan, choices: Choices) -> Run {
     Run {
-        scene,
+        scene: scene_of(plan),
         progress: at_start(choices),
         call: Call::Step(8),
         calls: 0,
@@ -115,8 +133,8 @@ fn turn(run: Run, plan: Plan, set_up: &[u8]) -> Run {
     let number = answer.number();
     let step = performed(call, scene.given_to(call), number).step;
     let next = scene.after(call, outcome);
-    let ended = number == 100 && is_rescue_step(call);
-    let differs = difference(held_to(next, ended, plan.victim));
+    let finished = number == 100 && is_rescue_step(call);
+    let differs = difference(held_to(next, finished, plan.victim));
     Run {
         scene: next,
         progress: progress.after(actor, width, number, step),
@@ -139,28 +157,35 @@ fn ending_number(steps: u64, completed: u64, count: u64, era: u64) -> u64 {
 }
 
 // How a run ended.
-fn ending_of(run: Run, plan: Plan) -> u64 {
+fn outcome_of(run: Run, plan: Plan) -> Ended {
     let scene = run.scene;
     let progress = run.progress;
+    let choices = progress.choices;
     let completed = if progress.completed { 1 } else { 0 };
-    ending_number(
-        progress.steps,
-        completed,
-        count_of(scene, plan.slot),
-        scene.era_of(plan.victim),
-    )
+    Ended {
+        ending: ending_number(
+            progress.steps,
+            completed,
+            count_of(scene, plan.slot),
+            scene.era_of(plan.victim),
+        ),
+        rescue_steps: progress.rescue_steps,
+        calls: run.calls,
+        differs: run.differs,
+        choices,
+    }
 }
 
 impl Sum {
     // The first run of its way of differing is kept.
-    fn noted(self, run: Run, plan: Plan) -> Sum {
+    fn noted(self, run: Ended, plan: Plan) -> Sum {
         let mut next = self;
         let at = (run.differs % 4) as usize;
         let first = next.firsts[at];
         if run.differs == 0 || first.found {
             return next;
         }
-        let choices = run.progress.choices;
+        let choices = run.choices;
         next.firsts[at] = Kept {
             found: true,
             choices,
@@ -170,11 +195,15 @@ impl Sum {
         next
     }
 
+    // One run more, of which only what is counted is looked at.
+    fn counted(self, run: Run, plan: Plan) -> Sum {
+        self.with(outcome_of(run, plan), plan)
+    }
+
     // One run more.
-    fn with(self, run: Run, plan: Plan) -> Sum {
+    fn with(self, run: Ended, plan: Plan) -> Sum {
         let mut next = self.noted(run, plan);
-        let progress = run.progress;
-        let choices = progress.choices;
+        let choices = run.choices;
         let endings = next.endings;
         next.runs = one_more(self.runs);
         next.calls = self.calls % 9223372036854775808 + run.calls % 4294967296;
@@ -185,7 +214,7 @@ impl Sum {
             next.differing = one_more(self.differing);
             return next;
         }
-        let more = endings.with(ending_of(run, plan), progress.rescue_steps);
+        let more = endings.with(run.ending, run.rescue_steps);
         next.endings = more;
         next
     }
@@ -212,9 +241,9 @@ fn branched(before: Run, choices: Choices, made: usize) -> Run {
 
 // Every run of a section. Two runs share their calls up to the first choice that they make differently: the run before
 // each choice is kept, and the next run goes on from there.
-fn swept(begin: Scene, plan: Plan, set_up: &[u8]) -> Sum {
+fn swept(plan: Plan, set_up: &[u8]) -> Sum {
     let mut sum = no_runs();
-    let mut run = run_from(begin, first_choices());
+    let mut run = run_from(plan, first_choices());
     let mut before = [run; 96];
     let mut left = u64::MAX;
     while 0 < left {
@@ -228,7 +257,7 @@ fn swept(begin: Scene, plan: Plan, set_up: &[u8]) -> Sum {
             run = next;
             continue;
         }
-        let more = sum.with(run, plan);
+        let more = sum.counted(run, plan);
         sum = more;
         tell_progress(sum.runs);
         let choices = run.progress.choices;
@@ -243,8 +272,8 @@ fn swept(begin: Scene, plan: Plan, set_up: &[u8]) -> Sum {
     sum
 }
 
-// A section's line: how many rescuers may die, in how many parts the other host plays, runs, calls, runs that differ, and
-// whether a run was too long to be gone through.
+// A section's line: how many rescuers may die, in how many parts the other host plays, runs, calls, runs that differ,
+// and whether a run was too long to be gone through.
 fn print_section(plan: Plan, sum: Sum) {
     print::heading(b"section");
     print::number(plan.kills);
@@ -315,8 +344,8 @@ fn print_numbers(call: u64, client: u64, cell: u64, slot: u64) {
 }
 
 // The calls of a run, up to the one after which it differs.
-fn print_run(begin: Scene, choices: Choices, plan: Plan, set_up: &[u8]) {
-    let mut run = run_from(begin, choices.again());
+fn print_run(choices: Choices, plan: Plan, set_up: &[u8]) {
+    let mut run = run_from(plan, choices.again());
     let mut left: u64 = 5000;
     while 0 < left {
         left -= 1;
@@ -334,7 +363,7 @@ fn print_run(begin: Scene, choices: Choices, plan: Plan, set_up: &[u8]) {
 }
 
 // The first run that differs in one way, as a trace to replay.
-fn print_first(way: u64, kept: Kept, begin: Scene, plan: Plan, set_up: &[u8]) {
+fn print_first(way: u64, kept: Kept, plan: Plan, set_up: &[u8]) {
     if !kept.found {
         return;
     }
@@ -347,27 +376,27 @@ fn print_first(way: u64, kept: Kept, begin: Scene, plan: Plan, set_up: &[u8]) {
     print::number(kept.kills);
     print::number(kept.parts);
     print::line_end();
-    print_run(begin, choices, section, set_up);
+    print_run(choices, section, set_up);
 }
 
 // Sweeps a section and prints what came of it.
-fn sweep_section(begin: Scene, plan: Plan, set_up: &[u8], kills: u64, parts: u64) {
+fn sweep_section(plan: Plan, set_up: &[u8], kills: u64, parts: u64) {
     let mut section = plan;
     section.kills = kills;
     section.parts = parts;
-    let sum = swept(begin, section, set_up);
+    let sum = swept(section, set_up);
     let endings = sum.endings;
     let firsts = sum.firsts;
     print_section(section, sum);
     print_endings(endings);
-    print_first(1, firsts[1], begin, section, set_up);
-    print_first(2, firsts[2], begin, section, set_up);
-    print_first(3, firsts[3], begin, section, set_up);
+    print_first(1, firsts[1], section, set_up);
+    print_first(2, firsts[2], section, set_up);
+    print_first(3, firsts[3], section, set_up);
 }
 
 // The world after the set-up.
-fn after_set_up(begin: Scene, plan: Plan, set_up: &[u8]) -> Scene {
-    let mut run = run_from(begin, first_choices());
+fn after_set_up(plan: Plan, set_up: &[u8]) -> Scene {
+    let mut run = run_from(plan, first_choices());
     let mut left = plan.set_ups;
     while 0 < left {
         left -= 1;
@@ -403,20 +432,20 @@ fn slot_of(call: Call, scene: Scene) -> u8 {
 }
 
 // Every section: deaths alone, and then with the other host.
-fn sweep_sections(begin: Scene, plan: Plan, set_up: &[u8], with_other: bool) {
-    sweep_section(begin, plan, set_up, 0, 0);
-    sweep_section(begin, plan, set_up, 1, 0);
-    sweep_section(begin, plan, set_up, 2, 0);
+fn sweep_sections(plan: Plan, set_up: &[u8], with_other: bool) {
+    sweep_section(plan, set_up, 0, 0);
+    sweep_section(plan, set_up, 1, 0);
+    sweep_section(plan, set_up, 2, 0);
     if with_other {
-        sweep_section(begin, plan, set_up, 0, 100);
-        sweep_section(begin, plan, set_up, 1, 2);
-        sweep_section(begin, plan, set_up, 2, 1);
+        sweep_section(plan, set_up, 0, 100);
+        sweep_section(plan, set_up, 1, 2);
+        sweep_section(plan, set_up, 2, 1);
     }
 }
 
 // Sweeps what the records say, where the world after the set-up accepts both openings.
-fn sweep_plan(begin: Scene, plan: Plan, set_up: &[u8], with_other: bool) {
-    let scene = after_set_up(begin, plan, set_up);
+fn sweep_plan(plan: Plan, set_up: &[u8], with_other: bool) {
+    let scene = after_set_up(plan, set_up);
     let opening = plan.opening;
     let other = plan.other;
     let victim = opens(scene, opening);
@@ -431,7 +460,7 @@ fn sweep_plan(begin: Scene, plan: Plan, set_up: &[u8], with_other: bool) {
     }
     let mut full = plan;
     full.slot = slot_of(opening, scene);
-    sweep_sections(begin, full, set_up, with_other);
+    sweep_sections(full, set_up, with_other);
 }
 
 // Reads the victim's opening, the other host's (0: none) and the set-up from standard input, and sweeps. `trapped`: own
@@ -454,11 +483,7 @@ pub(crate) fn sweep(trapped: bool) {
         set_ups: (n - 8) / 4,
         kills: 0,
         parts: 0,
+        trapped,
     };
-    let begin = if trapped {
-        given_scene(0)
-    } else {
-        fresh_scene()
-    };
-    sweep_plan(begin, plan, &input[8..n], with_other);
+    sweep_plan(plan, &input[8..n], with_other);
 }

@@ -14,14 +14,17 @@ use crate::words::standing_of;
 use crate::words::standing_value;
 use crate::words::word_of;
 use crate::words::written_value;
+use block::Block;
+use block::fresh_block;
+use block::matrix::fresh_eras;
 use block::store::Store;
 use calls::Call;
 use calls::Outcome;
 use calls::Records;
+use decode::Decoded;
+use decode::decode;
 use libc::STDIN_FILENO;
 use numbers::Client;
-use trace::decode::Decoded;
-use trace::decode::decode;
 
 // The start of a call's line: its place, its four bytes and its answer.
 fn print_call(place: u64, bytes: [u8; 4], answer: u64) {
@@ -45,12 +48,12 @@ fn print_doing(doing: Doing, next: u64) {
 }
 
 // The word that a store writes, with its old and its new value.
-fn print_store(store: Store, scene: Scene) {
+fn print_store(store: Store, block: Block, eras: [[u32; 8]; 8]) {
     let word = word_of(store);
     print::number(word.sort);
     print::number(word.whose);
     print::number(word.which);
-    print::value(standing_value(store, scene));
+    print::value(standing_value(store, block, eras));
     print::value(written_value(store));
 }
 
@@ -90,11 +93,12 @@ fn print_outcome(place: u64, bytes: [u8; 4], call: Call, outcome: Outcome, scene
         told_of(call, scene.given_to(call), outcome, number),
         next_step(call, outcome, number),
     );
-    print_store(store, scene);
+    let block = scene.block;
+    print_store(store, block, scene.matrix());
 }
 
 // The line of a record that is no known call.
-fn print_unknown(place: u64, bytes: [u8; 4], scene: Scene) {
+fn print_unknown(place: u64, bytes: [u8; 4]) {
     print_call(place, bytes, 12);
     print_doing(
         Doing {
@@ -106,7 +110,7 @@ fn print_unknown(place: u64, bytes: [u8; 4], scene: Scene) {
         },
         0,
     );
-    print_store(Store::Nothing, scene);
+    print_store(Store::Nothing, fresh_block(), fresh_eras());
 }
 
 // The line of a record that is cut short.
@@ -176,7 +180,8 @@ fn under_way(records: Records, standing: u64) -> Doing {
 
 // The line of a client.
 fn print_client(client: u8, scene: Scene) {
-    let standing = standing_of(scene, Client(client));
+    let block = scene.block;
+    let standing = standing_of(block, Client(client));
     let doing = under_way(scene.given_to(Call::Step(client as u64)), standing);
     print::heading(b"client");
     print::number(client as u64);
@@ -215,7 +220,7 @@ fn print_end(scene: Scene) {
 // Tells one record and plays it.
 fn told(place: u64, bytes: [u8; 4], scene: Scene) -> Scene {
     let Decoded::Known(call) = decode(bytes[0], bytes[1], bytes[2], bytes[3]) else {
-        print_unknown(place, bytes, scene);
+        print_unknown(place, bytes);
         return scene;
     };
     let outcome = scene.outcome(call);

@@ -1,6 +1,6 @@
 // The one shared word that a call wrote, in numbers: which it is, its old value and its new one.
 use crate::doing::kind_number;
-use crate::scene::Scene;
+use block::Block;
 use block::Cell;
 use block::Entry;
 use block::Log;
@@ -13,6 +13,7 @@ use block::standing_at;
 use block::store::Store;
 use header::unpack;
 use numbers::Client;
+use numbers::Slot;
 
 // A word's value: a header's era, count and client; a cell's slot; a log's kind, era, cell, slot and count; an era; a
 // standing. What a word does not have is 0.
@@ -95,8 +96,8 @@ pub(crate) fn standing_number(standing: Standing) -> u64 {
 }
 
 // The standing of a client, as a number.
-pub(crate) fn standing_of(scene: Scene, client: Client) -> u64 {
-    let standings = scene.block.standings;
+pub(crate) fn standing_of(block: Block, client: Client) -> u64 {
+    let standings = block.standings;
     standing_number(standing_at(standings, client))
 }
 
@@ -130,38 +131,35 @@ pub(crate) fn written_value(store: Store) -> Value {
 }
 
 // A client's cell's value.
-fn value_in_cell(scene: Scene, client: Client, cell: u8) -> Value {
-    let block = scene.block;
+fn value_in_cell(block: Block, client: Client, cell: u8) -> Value {
     cell_value(cell_at(&block.cells, client, cell))
 }
 
 // A slot's header's value.
-fn value_of_header(scene: Scene, slot: numbers::Slot) -> Value {
-    let block = scene.block;
+fn value_of_header(block: Block, slot: Slot) -> Value {
     header_value(header_at(&block.headers, slot))
 }
 
 // A client's log's value.
-fn value_of_log(scene: Scene, client: Client) -> Value {
-    let logs = scene.block.logs;
+fn value_of_log(block: Block, client: Client) -> Value {
+    let logs = block.logs;
     log_value(log_at(logs, client))
 }
 
 // An era's value in the matrix.
-fn value_of_era(scene: Scene, by: Client, of: Client) -> Value {
-    let eras = scene.matrix();
+fn value_of_era(eras: [[u32; 8]; 8], by: Client, of: Client) -> Value {
     let era = seen_era(&eras, by, of);
     single(era.0 as u64)
 }
 
 // What stands, before the store, in the word that it names.
-pub(crate) fn standing_value(store: Store, scene: Scene) -> Value {
+pub(crate) fn standing_value(store: Store, block: Block, eras: [[u32; 8]; 8]) -> Value {
     match store {
         Store::Nothing => single(0),
-        Store::Header(slot, _) => value_of_header(scene, slot),
-        Store::Cell(client, cell, _) => value_in_cell(scene, client, cell),
-        Store::Log(client, _) => value_of_log(scene, client),
-        Store::Era(by, of, _) => value_of_era(scene, by, of),
-        Store::Standing(client, _) => single(standing_of(scene, client)),
+        Store::Header(slot, _) => value_of_header(block, slot),
+        Store::Cell(client, cell, _) => value_in_cell(block, client, cell),
+        Store::Log(client, _) => value_of_log(block, client),
+        Store::Era(by, of, _) => value_of_era(eras, by, of),
+        Store::Standing(client, _) => single(standing_of(block, client)),
     }
 }

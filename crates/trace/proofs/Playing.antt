@@ -10,9 +10,10 @@ use Rattle.numbers.specs.declared.answers.Answer.{Answer}
 use Rattle.header.specs.Header.{unpacked}
 use Rattle.block.specs.Block.{freshBlock}
 use Rattle.world.specs.World.{World, fresh}
-use Rattle.trace.specs.declared.decode.Decoded.{Decoded}
+use Rattle.decode.specs.declared.Decoded.{Decoded}
+use Rattle.decode.specs.Decode.{decoded}
 use Rattle.trace.specs.Text.{line}
-use Rattle.trace.specs.Play.{decoded, textBy, worldBy, wholes, cut, slotsText, playedBy, printed}
+use Rattle.trace.specs.Play.{textBy, worldBy, wholes, cut, slotsText, playedBy, printed}
 
 -- a record that is cut short is not nothing
 not-empty : {a : ℕ} {x : List ℕ} → a ∷ x ≡ [] → ⊥

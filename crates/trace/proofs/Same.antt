@@ -14,9 +14,10 @@ use Rattle.history.proofs.Histories.{Good, Next}
 use Rattle.history.proofs.Histories.{next as good-next}
 use Rattle.history.proofs.Fresh.{fresh-good}
 use Rattle.history.proofs.Limits.{all-within}
-use Rattle.trace.specs.declared.decode.Decoded.{Decoded}
+use Rattle.decode.specs.declared.Decoded.{Decoded}
+use Rattle.decode.specs.Decode.{decoded}
 use Rattle.trace.specs.Text.{line}
-use Rattle.trace.specs.Play.{decoded, told, next, plainTold, plainNext, plainOutcome, afterOutcome, textBy, worldBy, wholes, cut, playedBy, played, printed, plainText, plainWorld, endText}
+use Rattle.trace.specs.Play.{told, next, plainTold, plainNext, plainOutcome, afterOutcome, textBy, worldBy, wholes, cut, playedBy, played, printed, plainText, plainWorld, endText}
 
 -- a world that a history leads to, however it went
 pub record Reached (w : World) : Type 0 where

@@ -25,8 +25,9 @@ use Rattle.calls.specs.Calls.{clientOf, nothing, checks, plainCall, lent}
 use Rattle.world.specs.World.{World, recordsAt}
 use Rattle.history.proofs.Updates.{by-test}
 use Rattle.trace.specs.Apply.{headersAfter, cellsAfter, logClient, logWord, standingClient, standingWord}
-use Rattle.trace.specs.declared.decode.Decoded.{Decoded}
-use Rattle.trace.specs.Play.{decoded, worldOf, plainOutcome, afterOutcome}
+use Rattle.decode.specs.declared.Decoded.{Decoded}
+use Rattle.decode.specs.Decode.{decoded}
+use Rattle.trace.specs.Play.{worldOf, plainOutcome, afterOutcome}
 
 -- R2.14: a call of a client that there is none is refused, whatever records it is given
 pub no-client :

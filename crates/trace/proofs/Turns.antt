@@ -24,10 +24,11 @@ use Rattle.stages.specs.declared.Stepped.{Stepped}
 use Rattle.step_calls.specs.Alone.{clientStep}
 use Rattle.step_calls.proofs.Alone.{step-alone}
 use Rattle.world.specs.World.{World}
-use Rattle.trace.specs.declared.decode.Decoded.{Decoded}
+use Rattle.decode.specs.declared.Decoded.{Decoded}
+use Rattle.decode.specs.Decode.{decoded}
 use Rattle.trace.specs.Apply.{headersAfter, cellsAfter, logClient, logWord, standingClient, standingWord}
 use Rattle.trace.specs.Text.{line, filled, Put}
-use Rattle.trace.specs.Play.{decoded, isStep, asksStep, textBy, worldBy, wholes, cut, plainTold, plainNext, plainText, plainWorld, plainOutcome, afterOutcome, outcomeOf, worldOf, Whole, readBy, turnRead, turnBytes, handedBack, Turn}
+use Rattle.trace.specs.Play.{isStep, asksStep, textBy, worldBy, wholes, cut, plainTold, plainNext, plainText, plainWorld, plainOutcome, afterOutcome, outcomeOf, worldOf, Whole, readBy, turnRead, turnBytes, handedBack, Turn}
 use Rattle.trace.proofs.Filling.{filled-none, put-then, put-length}
 use Rattle.trace.proofs.Playing.{cut-then, wholes-then, world-then, text-then, four-more, four-next}
 use Rattle.trace.proofs.Stepping.{by-kind, Agrees, agrees}

@@ -4,7 +4,7 @@ use mathlib.Core.Bool.{Bool, true, false, cond}
 use mathlib.Core.List.{List, [], _∷_, _++_}
 use mathlib.Core.Path.{_≡_}
 use lib.Dec.{eqb, ltb}
-use lib.ListN.{getD, length, take}
+use lib.ListN.{length, take}
 use Rattle.numbers.specs.Answers.{numberOf}
 use Rattle.numbers.specs.declared.answers.Answer.{Answer}
 use Rattle.header.specs.Header.{countIn}
@@ -16,30 +16,10 @@ use Rattle.calls.specs.declared.Outcome.{Outcome}
 use Rattle.calls.specs.Checks.{unchanged}
 use Rattle.calls.specs.Calls.{clientOf, plainCall}
 use Rattle.world.specs.World.{World, recordsAt, recordsAfter, fresh, answer, after}
-use Rattle.trace.specs.declared.decode.Decoded.{Decoded}
+use Rattle.decode.specs.declared.Decoded.{Decoded}
+use Rattle.decode.specs.Decode.{decoded}
 use Rattle.trace.specs.declared.Played.{Played}
 use Rattle.trace.specs.Text.{line, slotLine, filled}
-
--- R5.2: the calls by number, from 0
-abbrev pub known : ℕ → ℕ → ℕ → List Decoded
-known c k s =
-    Decoded.Unknown
-    ∷ Decoded.Known (Call.Join c)
-    ∷ Decoded.Known (Call.Leave c)
-    ∷ Decoded.Known (Call.Lease c k s)
-    ∷ Decoded.Known (Call.Attach c k s)
-    ∷ Decoded.Known (Call.Release c k)
-    ∷ Decoded.Known (Call.Step c)
-    ∷ Decoded.Known (Call.Fail c)
-    ∷ Decoded.Known (Call.TakeOver c)
-    ∷ Decoded.Known (Call.RescueStep c)
-    ∷ Decoded.Known (Call.RescuerFails c)
-    ∷ Decoded.Known (Call.LookUp c k)
-    ∷ []
-
--- R5.1, R5.2: what a record's four bytes ask for
-unfoldable pub decoded : ℕ → ℕ → ℕ → ℕ → Decoded
-decoded call c k s = getD (known c k s) call Decoded.Unknown
 
 -- whether a record asks for a step, the call made most
 abbrev pub isStep : Call → Bool

@@ -1,7 +1,7 @@
 // Playing a file of calls: whole records from an input slice into an output slice, and what stands at the end. The
 // block and the records of the clients are the caller's, from one turn to the next.
 mod apply;
-pub mod decode;
+mod asked;
 mod ending;
 mod text;
 
@@ -10,9 +10,8 @@ use crate::apply::log_client;
 use crate::apply::log_word;
 use crate::apply::standing_client;
 use crate::apply::standing_word;
-use crate::decode::answered;
-use crate::decode::asks_step;
-use crate::decode::decode;
+use crate::asked::answered;
+use crate::asked::asks_step;
 use crate::ending::put_cut;
 use crate::ending::put_slots;
 use crate::text::put_line;
@@ -21,6 +20,7 @@ use block::LogWord;
 use block::StandingWord;
 use block::store::Store;
 use calls::Records;
+use decode::decode;
 use numbers::answers::Answer;
 use stages::Stepped;
 use step_calls::client_step;

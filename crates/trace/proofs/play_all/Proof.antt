@@ -11,8 +11,9 @@ use lib.ListN.{length, length-set, getD, set}
 use Rattle.numbers.specs.Answers.{numberOf}
 use Rattle.calls.specs.Calls.{lent, ofClient, nothing}
 use Rattle.trace.specs.Apply.{logWord, standingWord}
-use Rattle.trace.specs.declared.decode.Decoded.{Decoded}
-use Rattle.trace.specs.Play.{decoded, asksStep, outcomeOf, worldOf}
+use Rattle.decode.specs.declared.Decoded.{Decoded}
+use Rattle.decode.specs.Decode.{decoded}
+use Rattle.trace.specs.Play.{asksStep, outcomeOf, worldOf}
 use Rattle.trace.proofs.Stepping.{named, headers-length, cells-length, eras-length, written-in, written-past}
 use Rattle.trace.proofs.Turns.{Going, begins, goes, finishes, told-is, next-is, Had, had, step-is}
 use Rattle.trace.proofs.play_all.Statement.{statement}

@@ -41,8 +41,8 @@ loop-less c = search needs
 loop-again : tie.Need-loop-again Inv-loop μ-loop
 loop-again c = search needs
 
-with-requires : tie.Need-with-requires Inv-loop μ-loop
-with-requires c κs = search needs
+counted-requires : tie.Need-counted-requires Inv-loop μ-loop
+counted-requires c κs = search needs
 
 tell-progress-requires : tie.Need-tell-progress-requires Inv-loop μ-loop
 tell-progress-requires c κs = search needs
@@ -90,7 +90,7 @@ swept-spec =
     turn-requires
     loop-less
     loop-again
-    with-requires
+    counted-requires
     tell-progress-requires
     following-requires
     last-told-requires

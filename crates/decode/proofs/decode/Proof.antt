@@ -1,14 +1,13 @@
--- `trace::decode::decode` meets its contract: within the words it reads the word, and past them what the definition has there.
+-- `decode::decode` meets its contract: within the words it reads the word, and past them what the definition has there.
 -- Assumes nothing.
 use Prim.Native.Nat.{ℕ, _+_, _≤_}
 use mathlib.Core.Path.{_≡_, sym}
 use native.Mathlib.Omega.{arith}
 use lib.ListN.{List·getD-eq-default}
-use Rattle.trace.specs.declared.decode.Decoded.{Decoded}
-use Rattle.trace.specs.Play.{known}
-use Rattle.trace.specs.Play.{decoded}
-use Rattle.trace.proofs.decode.decode.Statement.{statement}
-use Rattle.trace.proofs.decode.decode.Tie as tie
+use Rattle.decode.specs.declared.Decoded.{Decoded}
+use Rattle.decode.specs.Decode.{known, decoded}
+use Rattle.decode.proofs.decode.Statement.{statement}
+use Rattle.decode.proofs.decode.Tie as tie
 
 -- a number from n on that is not n
 up : (n x : ℕ) → n ≤ x → (x ≡ n → ⊥) → n + 1 ≤ x

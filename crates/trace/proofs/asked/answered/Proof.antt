@@ -1,9 +1,9 @@
--- `trace::decode::answered` meets its contract: a known call is made, and none is answered 12.
+-- `trace::asked::answered` meets its contract: a known call is made, and none is answered 12.
 -- Assumes nothing.
 use mathlib.Core.Path.{_∙_}
 use borrow.Author.Needs.{needs}
-use Rattle.trace.proofs.decode.answered.Statement.{statement}
-use Rattle.trace.proofs.decode.answered.Tie as tie
+use Rattle.trace.proofs.asked.answered.Statement.{statement}
+use Rattle.trace.proofs.asked.answered.Tie as tie
 
 enum-known-asked : tie.Need-enum-known-asked
 enum-known-asked c = search needs
