@@ -5,11 +5,20 @@
 pub mod matrix;
 pub mod store;
 
+use numbers::CELLS;
+use numbers::CLIENTS;
 use numbers::Client;
 use numbers::Era;
+use numbers::SLOTS;
 use numbers::Slot;
 ghost use mathlib.Core.Path.{_≡_};
 ghost use Rattle.block.specs.Block.{headerAt, cellAt, cellIn, logAt, standingAt, freshBlock};
+
+// The cells of all clients.
+pub const ALL_CELLS: usize = CLIENTS * CELLS;
+
+// The byte of an empty cell: it names no slot.
+pub const EMPTY: u8 = 255;
 
 // What an operation does to its slot's count.
 pub enum Kind {
@@ -64,10 +73,10 @@ pub enum Cell {
 
 // The shared words but for the era matrix. The cells of client c are the sixteen from 16 times c on.
 pub struct Block {
-    pub headers: [u64; 64],
-    pub cells: [u8; 128],
-    pub logs: [LogWord; 8],
-    pub standings: [StandingWord; 8],
+    pub headers: [u64; SLOTS],
+    pub cells: [u8; ALL_CELLS],
+    pub logs: [LogWord; CLIENTS],
+    pub standings: [StandingWord; CLIENTS],
 }
 
 // The block before the first call.
@@ -75,12 +84,12 @@ pub fn fresh_block() -> Block
     ensures { λ r. ⌜ r ≡ freshBlock ⌝ }
 {
     Block {
-        headers: [0u64; 64],
-        cells: [255u8; 128],
-        logs: [LogWord { log: Log::Nothing }; 8],
+        headers: [0u64; SLOTS],
+        cells: [EMPTY; ALL_CELLS],
+        logs: [LogWord { log: Log::Nothing }; CLIENTS],
         standings: [StandingWord {
             standing: Standing::Absent,
-        }; 8],
+        }; CLIENTS],
     }
 }
 
@@ -96,7 +105,7 @@ pub fn header_at(headers: &[u64], slot: Slot) -> u64
 pub fn cell_in(byte: u8) -> Cell
     ensures { λ r. ⌜ r ≡ cellIn byte ⌝ }
 {
-    if byte == 255 {
+    if byte == EMPTY {
         Cell::Empty
     } else {
         Cell::Holds(Slot(byte))
@@ -107,10 +116,10 @@ pub fn cell_in(byte: u8) -> Cell
 pub fn cell_at(cells: &[u8], client: Client, cell: u8) -> Cell
     ensures { λ r. ⌜ r ≡ cellAt (now (cells .entry)) (client .0) cell ⌝ }
 {
-    if 16 <= cell {
+    if CELLS <= cell as usize {
         return Cell::Empty;
     }
-    let at = client.0 as usize * 16 + cell as usize;
+    let at = client.0 as usize * CELLS + cell as usize;
     if at < cells.len() {
         cell_in(cells[at])
     } else {
@@ -119,11 +128,11 @@ pub fn cell_at(cells: &[u8], client: Client, cell: u8) -> Cell
 }
 
 // A client's log.
-pub fn log_at(logs: [LogWord; 8], client: Client) -> Log
+pub fn log_at(logs: [LogWord; CLIENTS], client: Client) -> Log
     ensures { λ r. ⌜ r ≡ logAt logs (client .0) ⌝ }
 {
     let at = client.0 as usize;
-    if at < 8 {
+    if at < CLIENTS {
         let word = logs[at];
         word.log
     } else {
@@ -132,11 +141,11 @@ pub fn log_at(logs: [LogWord; 8], client: Client) -> Log
 }
 
 // A client's standing.
-pub fn standing_at(standings: [StandingWord; 8], client: Client) -> Standing
+pub fn standing_at(standings: [StandingWord; CLIENTS], client: Client) -> Standing
     ensures { λ r. ⌜ r ≡ standingAt standings (client .0) ⌝ }
 {
     let at = client.0 as usize;
-    if at < 8 {
+    if at < CLIENTS {
         let word = standings[at];
         word.standing
     } else {

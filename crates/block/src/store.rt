@@ -1,18 +1,25 @@
 // The one word that a step writes, and the shared words after it. That a step changes exactly the words named for it
 // is what this type says: a store names one word. A write past the last word changes nothing.
+use crate::ALL_CELLS;
 use crate::Block;
 use crate::Cell;
+use crate::EMPTY;
 use crate::Entry;
 use crate::Log;
 use crate::LogWord;
 use crate::Standing;
 use crate::StandingWord;
+use crate::matrix::Matrix;
+use crate::matrix::Row;
+use numbers::CELLS;
+use numbers::CLIENTS;
 use numbers::Client;
 use numbers::Era;
+use numbers::SLOTS;
 use numbers::Slot;
 ghost use mathlib.Core.Path.{_≡_};
 ghost use lib.ListN.{set};
-ghost use Rattle.block.specs.Store.{blockAfter, erasAfter, withHeader, withCell, withLog, withStanding, withEra, byteOf};
+ghost use Rattle.block.specs.Store.{blockAfter, erasAfter, withEra, byteOf};
 
 // What a step writes: nothing, a slot's header, a client's cell, its log, the era of one client in the row of
 // another (in its own row: the own era), or a client's standing.
@@ -40,7 +47,7 @@ pub fn block_after(store: Store, block: Block) -> Block
 }
 
 // The era matrix after a store.
-pub fn eras_after(store: Store, eras: [[u32; 8]; 8]) -> [[u32; 8]; 8]
+pub fn eras_after(store: Store, eras: Matrix) -> Matrix
     ensures { λ r. ⌜ r ≡ erasAfter store eras ⌝ }
 {
     match store {
@@ -55,11 +62,11 @@ pub fn eras_after(store: Store, eras: [[u32; 8]; 8]) -> [[u32; 8]; 8]
 
 // The block with a slot's header written.
 fn with_header(block: Block, slot: Slot, word: u64) -> Block
-    ensures { λ r. ⌜ r ≡ withHeader block (slot .0) word ⌝ }
+    ensures { λ r. ⌜ r ≡ blockAfter (Store.Header slot word) block ⌝ }
 {
     let at = slot.0 as usize;
     let mut next = block;
-    if at < 64 {
+    if at < SLOTS {
         next.headers[at] = word;
         return next;
     }
@@ -67,26 +74,26 @@ fn with_header(block: Block, slot: Slot, word: u64) -> Block
 }
 
 // The byte of what a cell holds.
-fn byte_of(held: Cell) -> u8
+pub fn byte_of(held: Cell) -> u8
     ensures { λ r. ⌜ r ≡ byteOf held ⌝ }
 {
     match held {
-        Cell::Empty => 255,
+        Cell::Empty => EMPTY,
         Cell::Holds(slot) => slot.0,
     }
 }
 
 // The block with a client's cell written.
 fn with_cell(block: Block, client: Client, cell: u8, held: Cell) -> Block
-    ensures { λ r. ⌜ r ≡ withCell block (client .0) cell held ⌝ }
+    ensures { λ r. ⌜ r ≡ blockAfter (Store.Cell client cell held) block ⌝ }
 {
     let byte = byte_of(held);
-    let at = client.0 as usize * 16 + cell as usize;
+    let at = client.0 as usize * CELLS + cell as usize;
     let mut next = block;
-    if 16 <= cell {
+    if CELLS <= cell as usize {
         return next;
     }
-    if at < 128 {
+    if at < ALL_CELLS {
         next.cells[at] = byte;
         return next;
     }
@@ -95,7 +102,7 @@ fn with_cell(block: Block, client: Client, cell: u8, held: Cell) -> Block
 
 // The block with a client's log written.
 fn with_log(block: Block, client: Client, entry: Entry) -> Block
-    ensures { λ r. ⌜ r ≡ withLog block (client .0) entry ⌝ }
+    ensures { λ r. ⌜ r ≡ blockAfter (Store.Log client entry) block ⌝ }
 {
     let mut next = block;
     let logs = next.logs;
@@ -111,12 +118,12 @@ fn with_log(block: Block, client: Client, entry: Entry) -> Block
 }
 
 // The logs with one word written.
-fn logs_with(logs: [LogWord; 8], client: Client, word: LogWord) -> [LogWord; 8]
+fn logs_with(logs: [LogWord; CLIENTS], client: Client, word: LogWord) -> [LogWord; CLIENTS]
     ensures { λ r. ⌜ r ≡ set logs (client .0) word ⌝ }
 {
     let at = client.0 as usize;
     let mut next = logs;
-    if at < 8 {
+    if at < CLIENTS {
         next[at] = word;
         return next;
     }
@@ -125,7 +132,7 @@ fn logs_with(logs: [LogWord; 8], client: Client, word: LogWord) -> [LogWord; 8]
 
 // The block with a client's standing written.
 fn with_standing(block: Block, client: Client, standing: Standing) -> Block
-    ensures { λ r. ⌜ r ≡ withStanding block (client .0) standing ⌝ }
+    ensures { λ r. ⌜ r ≡ blockAfter (Store.Standing client standing) block ⌝ }
 {
     let mut next = block;
     let standings = next.standings;
@@ -136,15 +143,15 @@ fn with_standing(block: Block, client: Client, standing: Standing) -> Block
 
 // The standings with one word written.
 fn standings_with(
-    standings: [StandingWord; 8],
+    standings: [StandingWord; CLIENTS],
     client: Client,
     word: StandingWord,
-) -> [StandingWord; 8]
+) -> [StandingWord; CLIENTS]
     ensures { λ r. ⌜ r ≡ set standings (client .0) word ⌝ }
 {
     let at = client.0 as usize;
     let mut next = standings;
-    if at < 8 {
+    if at < CLIENTS {
         next[at] = word;
         return next;
     }
@@ -152,12 +159,12 @@ fn standings_with(
 }
 
 // The matrix with the era of one client written in the row of another.
-fn with_era(eras: [[u32; 8]; 8], by: Client, of: Client, era: Era) -> [[u32; 8]; 8]
+fn with_era(eras: Matrix, by: Client, of: Client, era: Era) -> Matrix
     ensures { λ r. ⌜ r ≡ withEra eras (by .0) (of .0) era ⌝ }
 {
     let at = by.0 as usize;
     let mut next = eras;
-    if at < 8 {
+    if at < CLIENTS {
         let row = with_entry(next[at], of, era);
         next[at] = row;
         return next;
@@ -166,12 +173,12 @@ fn with_era(eras: [[u32; 8]; 8], by: Client, of: Client, era: Era) -> [[u32; 8];
 }
 
 // A row with one entry written.
-fn with_entry(row: [u32; 8], of: Client, era: Era) -> [u32; 8]
+pub fn with_entry(row: Row, of: Client, era: Era) -> Row
     ensures { λ r. ⌜ r ≡ set row (of .0) (era .0) ⌝ }
 {
     let at = of.0 as usize;
     let mut next = row;
-    if at < 8 {
+    if at < CLIENTS {
         next[at] = era.0;
         return next;
     }

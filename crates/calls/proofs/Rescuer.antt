@@ -11,10 +11,10 @@ use Rattle.block.specs.declared.Standing.{Standing}
 use Rattle.block.specs.Block.{standingAt}
 use Rattle.block.specs.Store.{blockAfter, erasAfter}
 use Rattle.limits.specs.Limits.{within}
-use Rattle.calls.specs.declared.Call.{Call}
 use Rattle.calls.specs.declared.Outcome.{Outcome}
 use Rattle.calls.specs.declared.Records.{Records}
-use Rattle.calls.specs.Calls.{checks, effect, turned, plainCall, checkedCall}
+use Rattle.calls.specs.Calls.{asks, effect, standsAs, plainCall, checkedCall}
+use Rattle.calls.specs.Named.{takeOver}
 use Rattle.calls.specs.Demands.{rescueSteps, takenOver, KnowsOnlySharedWords}
 
 -- an accepted take over hands back records with nothing under way, whatever they were
@@ -23,8 +23,8 @@ fresh-rescuer :
     c < clients →
     standingAt (b .standings) c ≡ Standing.Failed →
     within c b eras (given .client) (given .rescuer) ≡ true →
-    checkedCall (Call.TakeOver c) b eras given ≡ turned c Standing.InRescue
-unfolding checkedCall plainCall checks effect
+    checkedCall (takeOver c) b eras given ≡ standsAs c Standing.InRescue
+unfolding checkedCall plainCall asks effect
 fresh-rescuer c b eras given below failed limits = rw (limits, lt-ltb c clients below, failed)
 
 -- D2: a rescuer knows only what lies in shared memory

@@ -1,17 +1,16 @@
 -- The checks of the calls (R2.1): each is a test and the answer where it does not pass. The table of R2.3 to R2.13 is
--- `checks` of Calls.antt.
+-- `asks` of Calls.antt.
 use Prim.Native.Nat.{ℕ}
 use mathlib.Core.Bool.{Bool, true, false, not, cond}
 use mathlib.Core.List.{List, [], _∷_}
 use lib.Dec.{ltb, eqb}
 use Rattle.numbers.specs.Sizes.{clients, slots, cells, eraStop}
+use Rattle.numbers.specs.declared.Era.{Era}
 use Rattle.numbers.specs.declared.answers.Answer.{Answer}
 use Rattle.block.specs.declared.Cell.{Cell}
 use Rattle.block.specs.declared.Standing.{Standing}
-use Rattle.block.specs.declared.StandingWord.{StandingWord}
 use Rattle.block.specs.declared.store.Store.{Store}
-use Rattle.block.specs.Block.{cellAt, standingAt}
-use Rattle.block.specs.Matrix.{ownEra}
+use Rattle.block.specs.Block.{cellAt}
 use Rattle.stages.specs.Stages.{isIdle}
 use Rattle.rescue.specs.declared.search.Found.{Found}
 use Rattle.rescue.specs.Search.{lowestFull}
@@ -57,10 +56,9 @@ standingCode Standing.InRescue = 3
 abbrev pub sameStanding : Standing → Standing → Bool
 sameStanding asked found = eqb (standingCode found) (standingCode asked)
 
--- R2.14, 4: client c's standing is the one asked for
-abbrev pub stands : Standing → List StandingWord → ℕ → Check
-stands asked standings c =
-    record { passes = sameStanding asked (standingAt standings c); refusal = Answer.WrongStanding }
+-- R2.14, 4: the standing that was found is the one asked for
+abbrev pub stands : Standing → Standing → Check
+stands asked found = record { passes = sameStanding asked found; refusal = Answer.WrongStanding }
 
 -- R2.14, 5: nothing, or something, is under way
 abbrev pub nothingUnderWay : Records → Check
@@ -80,9 +78,9 @@ cellEmpty bytes c k = record { passes = isEmpty (cellAt bytes c k); refusal = An
 abbrev pub cellFull : List ℕ → ℕ → ℕ → Check
 cellFull bytes c k = record { passes = not (isEmpty (cellAt bytes c k)); refusal = Answer.WrongCell }
 
--- R2.14, 9: client c's own era is below the era stop
-abbrev pub belowEraStop : List (List ℕ) → ℕ → Check
-belowEraStop eras c = record { passes = ltb (ownEra eras c .0) eraStop; refusal = Answer.AtEraStop }
+-- R2.14, 9: the own era is below the era stop
+abbrev pub belowEraStop : Era → Check
+belowEraStop own = record { passes = ltb (own .0) eraStop; refusal = Answer.AtEraStop }
 
 abbrev pub foundNothing : Found → Bool
 foundNothing Found.Nothing = true

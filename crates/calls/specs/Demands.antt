@@ -14,6 +14,7 @@ use Rattle.limits.specs.Limits.{within}
 use Rattle.calls.specs.declared.Call.{Call}
 use Rattle.calls.specs.declared.Records.{Records}
 use Rattle.calls.specs.Calls.{checkedCall}
+use Rattle.calls.specs.Named.{takeOver, rescueStep}
 
 -- R2.14: the answers that leave everything: 1 to 6, 9 to 13, 199 and 200 up
 abbrev pub leavesEverything : Answer → Bool
@@ -90,13 +91,13 @@ pub record Seen : Type 0 where
 unfoldable pub rescueSteps : ℕ → ℕ → Block → List (List ℕ) → Records → List Answer → Seen
 rescueSteps zero c b eras given answers = record { answers = answers; block = b; eras = eras }
 rescueSteps (suc n) c b eras given answers =
-    let o = checkedCall (Call.RescueStep c) b eras given in
+    let o = checkedCall (rescueStep c) b eras given in
     rescueSteps n c (blockAfter (o .store) b) (erasAfter (o .store) eras) (o .records) (o .answer ∷ answers)
 
 -- R4.9: a take over of client c and n rescue steps after it
 unfoldable pub takenOver : ℕ → ℕ → Block → List (List ℕ) → Records → Seen
 takenOver n c b eras given =
-    let o = checkedCall (Call.TakeOver c) b eras given in
+    let o = checkedCall (takeOver c) b eras given in
     rescueSteps n c (blockAfter (o .store) b) (erasAfter (o .store) eras) (o .records) (o .answer ∷ [])
 
 -- D2: a rescuer knows only what lies in shared memory: shared words with client c failed give its new rescuer the same

@@ -1,33 +1,38 @@
-// What a call is: its numbers, the records that it is given and hands back, its answer and the one word that it writes.
-// specs/ has the eleven calls, their checks in order and what each does; the crates above have their code.
+// What a call is: a client and what is asked of it, the records that it is given and hands back, its answer and the one
+// word that it writes. specs/ has the eleven calls, their checks in order and what each does; the crates above have
+// their code.
 use block::Standing;
-use block::StandingWord;
-use block::standing_at;
 use block::store::Store;
-use numbers::Client;
 use numbers::answers::Answer;
-use rescue::RescueStep;
+use rescue::Rescued;
 use rescue::RescuerRecord;
+use rescue::RescuerStep;
 use stages::ClientRecord;
 use stages::Stage;
+use stages::Stepped;
 ghost use mathlib.Core.Path.{_≡_};
-ghost use Rattle.block.specs.Block.{standingAt};
 ghost use Rattle.calls.specs.Checks.{unchanged, refused, standingCode, sameStanding};
-ghost use Rattle.calls.specs.Calls.{clientOf, nothing, accepted};
+ghost use Rattle.calls.specs.Calls.{nothing, accepted, ofClient, ofRescuer};
 
-// A call, with any numbers: the client, and where the call names them the cell and the slot.
-pub enum Call {
-    Join(u64),
-    Leave(u64),
-    Lease(u64, u64, u64),
-    Attach(u64, u64, u64),
-    Release(u64, u64),
-    Step(u64),
-    Fail(u64),
-    TakeOver(u64),
-    RescueStep(u64),
-    RescuerFails(u64),
-    LookUp(u64, u64),
+// What is asked of a client, with any numbers where it names a cell and a slot.
+pub enum Act {
+    Join,
+    Leave,
+    Lease(u64, u64),
+    Attach(u64, u64),
+    Release(u64),
+    Step,
+    Fail,
+    TakeOver,
+    RescueStep,
+    RescuerFails,
+    LookUp(u64),
+}
+
+// A call: a client, by any number, and what is asked of it.
+pub struct Call {
+    pub client: u64,
+    pub act: Act,
 }
 
 // The private words of one client: its own record and its rescuer's.
@@ -50,7 +55,7 @@ pub fn nothing() -> Records
     Records {
         client: ClientRecord { stage: Stage::Idle },
         rescuer: RescuerRecord {
-            step: RescueStep::ReadLog,
+            step: RescuerStep::ReadLog,
         },
     }
 }
@@ -84,22 +89,33 @@ pub fn accepted(records: Records, store: Store) -> Outcome
     }
 }
 
-// The client that a call names.
-pub fn client_of(call: Call) -> u64
-    ensures { λ r. ⌜ r ≡ clientOf call ⌝ }
+// A client's step as the outcome of a call.
+pub fn of_client(stepped: Stepped, records: Records) -> Outcome
+    ensures { λ r. ⌜ r ≡ ofClient stepped records ⌝ }
 {
-    match call {
-        Call::Join(c) => c,
-        Call::Leave(c) => c,
-        Call::Lease(c, _, _) => c,
-        Call::Attach(c, _, _) => c,
-        Call::Release(c, _) => c,
-        Call::Step(c) => c,
-        Call::Fail(c) => c,
-        Call::TakeOver(c) => c,
-        Call::RescueStep(c) => c,
-        Call::RescuerFails(c) => c,
-        Call::LookUp(c, _) => c,
+    let answer = stepped.answer;
+    let client = stepped.next;
+    let store = stepped.store;
+    let rescuer = records.rescuer;
+    Outcome {
+        answer,
+        records: Records { client, rescuer },
+        store,
+    }
+}
+
+// A rescuer's step as the outcome of a call.
+pub fn of_rescuer(rescued: Rescued, records: Records) -> Outcome
+    ensures { λ r. ⌜ r ≡ ofRescuer rescued records ⌝ }
+{
+    let answer = rescued.answer;
+    let rescuer = rescued.next;
+    let store = rescued.store;
+    let client = records.client;
+    Outcome {
+        answer,
+        records: Records { client, rescuer },
+        store,
     }
 }
 
@@ -115,9 +131,9 @@ fn standing_code(standing: Standing) -> u8
     }
 }
 
-// Whether a client's standing is the one asked for.
-pub fn stands(asked: Standing, standings: [StandingWord; 8], client: Client) -> bool
-    ensures { λ r. ⌜ r ≡ sameStanding asked (standingAt standings (client .0)) ⌝ }
+// Whether the standing that was found is the one asked for.
+pub fn stands(asked: Standing, found: Standing) -> bool
+    ensures { λ r. ⌜ r ≡ sameStanding asked found ⌝ }
 {
-    standing_code(standing_at(standings, client)) == standing_code(asked)
+    standing_code(found) == standing_code(asked)
 }

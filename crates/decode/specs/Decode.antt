@@ -3,23 +3,24 @@ use Prim.Native.Nat.{ℕ}
 use mathlib.Core.List.{List, [], _∷_}
 use lib.ListN.{getD}
 use Rattle.calls.specs.declared.Call.{Call}
+use Rattle.calls.specs.Named.{join, leave, lease, attach, release, step, fail, takeOver, rescueStep, rescuerFails, lookUp}
 use Rattle.decode.specs.declared.Decoded.{Decoded}
 
 -- R5.2: the calls by number, from 0
 abbrev pub known : ℕ → ℕ → ℕ → List Decoded
 known c k s =
     Decoded.Unknown
-    ∷ Decoded.Known (Call.Join c)
-    ∷ Decoded.Known (Call.Leave c)
-    ∷ Decoded.Known (Call.Lease c k s)
-    ∷ Decoded.Known (Call.Attach c k s)
-    ∷ Decoded.Known (Call.Release c k)
-    ∷ Decoded.Known (Call.Step c)
-    ∷ Decoded.Known (Call.Fail c)
-    ∷ Decoded.Known (Call.TakeOver c)
-    ∷ Decoded.Known (Call.RescueStep c)
-    ∷ Decoded.Known (Call.RescuerFails c)
-    ∷ Decoded.Known (Call.LookUp c k)
+    ∷ Decoded.Known (join c)
+    ∷ Decoded.Known (leave c)
+    ∷ Decoded.Known (lease c k s)
+    ∷ Decoded.Known (attach c k s)
+    ∷ Decoded.Known (release c k)
+    ∷ Decoded.Known (step c)
+    ∷ Decoded.Known (fail c)
+    ∷ Decoded.Known (takeOver c)
+    ∷ Decoded.Known (rescueStep c)
+    ∷ Decoded.Known (rescuerFails c)
+    ∷ Decoded.Known (lookUp c k)
     ∷ []
 
 -- R5.1, R5.2: what a record's four bytes ask for

@@ -1,6 +1,8 @@
 // The four bytes of a record as a call.
+use calls::Act;
 use calls::Call;
 ghost use mathlib.Core.Path.{_≡_};
+ghost use Rattle.calls.specs.Named.{of};
 ghost use Rattle.decode.specs.Decode.{decoded};
 
 // What a record asks for: a call that is known, or none.
@@ -9,25 +11,34 @@ pub enum Decoded {
     Unknown,
 }
 
+// A known call.
+fn known(client: u8, act: Act) -> Decoded
+    ensures { λ r. ⌜ r ≡ Decoded.Known (of client act) ⌝ }
+{
+    Decoded::Known(Call {
+        client: client as u64,
+        act,
+    })
+}
+
 // The call that a record's four bytes name.
 pub fn decode(call: u8, client: u8, cell: u8, slot: u8) -> Decoded
     ensures { λ r. ⌜ r ≡ decoded call client cell slot ⌝ }
 {
-    let c = client as u64;
     let k = cell as u64;
     let s = slot as u64;
     match call {
-        1 => Decoded::Known(Call::Join(c)),
-        2 => Decoded::Known(Call::Leave(c)),
-        3 => Decoded::Known(Call::Lease(c, k, s)),
-        4 => Decoded::Known(Call::Attach(c, k, s)),
-        5 => Decoded::Known(Call::Release(c, k)),
-        6 => Decoded::Known(Call::Step(c)),
-        7 => Decoded::Known(Call::Fail(c)),
-        8 => Decoded::Known(Call::TakeOver(c)),
-        9 => Decoded::Known(Call::RescueStep(c)),
-        10 => Decoded::Known(Call::RescuerFails(c)),
-        11 => Decoded::Known(Call::LookUp(c, k)),
+        1 => known(client, Act::Join),
+        2 => known(client, Act::Leave),
+        3 => known(client, Act::Lease(k, s)),
+        4 => known(client, Act::Attach(k, s)),
+        5 => known(client, Act::Release(k)),
+        6 => known(client, Act::Step),
+        7 => known(client, Act::Fail),
+        8 => known(client, Act::TakeOver),
+        9 => known(client, Act::RescueStep),
+        10 => known(client, Act::RescuerFails),
+        11 => known(client, Act::LookUp(k)),
         0 | 12..=255 => Decoded::Unknown,
     }
 }

@@ -1,6 +1,8 @@
 -- The header word (R1.4): bits 0 to 31 the era of the last swap, 32 to 47 the count, 48 to 55 the client of the last
 -- swap, the rest zero.
 use Prim.Native.Nat.{ℕ, _+_, _*_, _/_, _%_}
+use mathlib.Core.Bool.{Bool}
+use lib.Dec.{eqb}
 use Rattle.header.specs.declared.Fields.{Fields}
 
 -- R1.4: the word of the fields, each cut to its bits
@@ -27,6 +29,10 @@ countIn w = unpacked w .count
 -- R1.4: the client of the last swap
 abbrev pub clientIn : ℕ → ℕ
 clientIn w = unpacked w .client .0
+
+-- R1.6: a slot is free exactly when its count is 0
+abbrev pub isFree : ℕ → Bool
+isFree w = eqb (countIn w) 0
 
 -- R1.4: bits 56 to 63, zero in every header of a history
 unfoldable pub spareIn : ℕ → ℕ

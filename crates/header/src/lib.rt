@@ -3,7 +3,7 @@
 use numbers::Client;
 use numbers::Era;
 ghost use mathlib.Core.Path.{_≡_};
-ghost use Rattle.header.specs.Header.{packed, unpacked, spareIn};
+ghost use Rattle.header.specs.Header.{packed, unpacked, isFree, spareIn};
 
 // What a header holds.
 pub struct Fields {
@@ -30,6 +30,13 @@ pub fn unpack(word: u64) -> Fields
         count: (word / 4294967296 % 65536) as u32,
         client: Client((word / 281474976710656 % 256) as u8),
     }
+}
+
+// Whether the slot of this header is free.
+pub fn is_free(word: u64) -> bool
+    ensures { λ r. ⌜ r ≡ isFree word ⌝ }
+{
+    unpack(word).count == 0
 }
 
 // The bits of `word` that no field has.

@@ -1,18 +1,20 @@
 -- The lines of a ledger counted: those of a client, those of a cell, those that name a slot; what entering, striking
--- and turning a line does to each; and the pigeonhole over the cells of a client and over all. Assumes nothing.
+-- and phasing a line does to each; and the pigeonhole over the cells of a client and over all. Assumes nothing.
 use Prim.Native.Nat.{ℕ, zero, suc, _+_, _*_, _<_, _≤_}
-use mathlib.Core.Bool.{Bool, true, false, cond, _&&_}
+use mathlib.Core.Bool.{Bool, true, false, cond, _&&_, and-false}
 use mathlib.Core.List.{List, [], _∷_}
-use mathlib.Core.Path.{_≡_, refl, sym, _∙_}
+use mathlib.Core.Path.{_≡_, refl, sym, ap, _∙_}
+use native.Mathlib.Nat.{zero-add}
 use native.Mathlib.Omega.{arith}
 use lib.Dec.{eqb}
 use lib.ListN.{length}
 use borrow.Author.Tests.{eqb-true, eq-eqb, ne-eqb}
+use Rattle.numbers.specs.Sizes.{clients, cells, countLimit}
 use Rattle.numbers.specs.declared.answers.Answer.{Answer}
 use Rattle.block.specs.declared.Operation.{Operation}
-use Rattle.history.specs.Ledger.{Phase, written, opened, Line, lineOf, isEntry, isLine, struck, inPhase, turnedTo, naming, isWritten, shownBy}
+use Rattle.history.specs.Ledger.{Phase, visible, closing, Line, lineOf, isEntry, isLine, struck, inPhase, phased, naming, isVisible, shownBy}
 use Rattle.history.specs.Demand3.{NoLines}
-use Rattle.history.proofs.Updates.{by-test, by-equal, and-left, and-right, and-both}
+use Rattle.history.proofs.Updates.{by-test, by-equal, and-left, and-right, and-both, apart}
 
 -- the slots that the lines of client c and cell k name
 unfoldable pub slotsAt : ℕ → ℕ → List Line → List ℕ
@@ -27,38 +29,42 @@ linesOf c (l ∷ rest) = cond (eqb (l .client) c) 1 0 + linesOf c rest
 -- every line is of a client and a cell that there are
 abbrev pub Ranged : List Line → Type 0
 Ranged [] = Unit {0}
-Ranged (l ∷ rest) = (l .client < 8) × ((l .cell < 16) × Ranged rest)
+Ranged (l ∷ rest) = (l .client < clients) × ((l .cell < cells) × Ranged rest)
 
--- one list's lines of client c look like the other's
+-- a list with a line is not the empty one
+no-cons : {A : Type 0} {a : A} {rest : List A} → a ∷ rest ≡ [] → ⊥
+no-cons e = let z : _≡_ {A = ℕ} 0 1 = cc in omega arith
+
+-- the lines of client c look alike in two ledgers
 pub record Alike (c : ℕ) (old new : List Line) : Type 0 where
   pub slots : (k : ℕ) → slotsAt c k new ≡ slotsAt c k old
   pub lines : linesOf c new ≡ linesOf c old
   pub shows : (k : ℕ) → shownBy c k new ≡ shownBy c k old
 
--- a list is like itself
+-- a ledger is like itself
 pub alike : {c : ℕ} {lines : List Line} → Alike c lines lines
 alike = record { slots = λ k. refl; lines = refl; shows = λ k. refl }
 
--- a line of one cell is of no other
+-- a line of client c and cell k is of client c
 entry-client : (c k : ℕ) (l : Line) → isEntry c k l ≡ true → l .client ≡ c
 entry-client c k l e = eqb-true (l .client) c (and-left (eqb (l .client) c) (eqb (l .cell) k) e)
 
--- and of cell k
+-- a line of client c and cell k is of cell k
 entry-cell : (c k : ℕ) (l : Line) → isEntry c k l ≡ true → l .cell ≡ k
 entry-cell c k l e = eqb-true (l .cell) k (and-right (eqb (l .client) c) (eqb (l .cell) k) e)
 
--- and of no other cell
+-- a line of one cell is of no other
 entry-other : (c k d j : ℕ) (l : Line) → (d ≡ c → j ≡ k → ⊥) → isEntry c k l ≡ true → isEntry d j l ≡ false
-entry-other c k d j l apart e =
+entry-other c k d j l far e =
     by-test (isEntry d j l)
     (λ t.
     absurd
-    (apart (sym (entry-client d j l t) ∙ entry-client c k l e) (sym (entry-cell d j l t) ∙ entry-cell c k l e)))
+    (far (sym (entry-client d j l t) ∙ entry-client c k l e) (sym (entry-cell d j l t) ∙ entry-cell c k l e)))
     (λ f. f)
 
--- and of no other client
+-- a line of one client is of no other
 entry-stays : (c k d : ℕ) (l : Line) → (d ≡ c → ⊥) → isEntry c k l ≡ true → eqb (l .client) d ≡ false
-entry-stays c k d l apart e = ne-eqb (l .client) d (λ q. apart (sym q ∙ entry-client c k l e))
+entry-stays c k d l far e = ne-eqb (l .client) d (λ q. far (sym q ∙ entry-client c k l e))
 
 -- A line entered.
 module _ (c : ℕ) (op : Operation) (lines : List Line) where
@@ -66,40 +72,35 @@ module _ (c : ℕ) (op : Operation) (lines : List Line) where
   entered-is : isEntry c (op .cell) (lineOf c op) ≡ true
   entered-is = and-both (eqb c c) (eqb (op .cell) (op .cell)) (eq-eqb c c refl) (eq-eqb (op .cell) (op .cell) refl)
 
-  -- the cell has one line more
+  -- the cell of the line entered has one line more
   pub slots-entered : slotsAt c (op .cell) (lineOf c op ∷ lines) ≡ op .slot .0 ∷ slotsAt c (op .cell) lines
   unfolding slotsAt
   slots-entered = rw entered-is
 
-  -- the other cells have not
+  -- every other cell has as many lines
   pub slots-beside : (d j : ℕ) → (d ≡ c → j ≡ op .cell → ⊥) → slotsAt d j (lineOf c op ∷ lines) ≡ slotsAt d j lines
   unfolding slotsAt
-  slots-beside d j apart = rw (entry-other c (op .cell) d j (lineOf c op) apart entered-is)
+  slots-beside d j far = rw (entry-other c (op .cell) d j (lineOf c op) far entered-is)
 
-  -- the slot has one more
+  -- one line more names its slot
   pub naming-entered : naming (op .slot .0) (lineOf c op ∷ lines) ≡ 1 + naming (op .slot .0) lines
   unfolding naming
   naming-entered = rw (eq-eqb (op .slot .0) (op .slot .0) refl)
 
-  -- the other slots have not
+  -- as many lines name every other slot
   pub naming-beside : (s : ℕ) → (s ≡ op .slot .0 → ⊥) → naming s (lineOf c op ∷ lines) ≡ naming s lines
   unfolding naming
-  naming-beside s h =
-      let q : 0 + naming s lines ≡ naming s lines = omega arith in rw (ne-eqb (op .slot .0) s (λ e. h (sym e))) q
+  naming-beside s h = rw (ne-eqb (op .slot .0) s (λ e. h (sym e))) (zero-add (naming s lines))
 
-  -- a line that is not written shows nothing
+  -- a line whose cell is not yet written shows nothing
   pub shows-entered : (d j : ℕ) → shownBy d j (lineOf c op ∷ lines) ≡ shownBy d j lines
   unfolding shownBy
-  shows-entered d j = rw (and-no (isEntry d j (lineOf c op)))
-    where
-      and-no : (b : Bool) → (b && false) ≡ false
-      and-no true = refl
-      and-no false = refl
+  shows-entered d j = rw (and-false (isEntry d j (lineOf c op)))
 
-  -- nor have the other clients
+  -- every other client has as many lines
   lines-beside : (d : ℕ) → (d ≡ c → ⊥) → linesOf d (lineOf c op ∷ lines) ≡ linesOf d lines
   unfolding linesOf
-  lines-beside d h = let q : 0 + linesOf d lines ≡ linesOf d lines = omega arith in rw (ne-eqb c d (λ e. h (sym e))) q
+  lines-beside d h = rw (ne-eqb c d (λ e. h (sym e))) (zero-add (linesOf d lines))
 
   -- the lines of the others are as before
   pub alike-entered : (d : ℕ) → (d ≡ c → ⊥) → Alike d lines (lineOf c op ∷ lines)
@@ -108,61 +109,60 @@ module _ (c : ℕ) (op : Operation) (lines : List Line) where
 
 -- A line struck out.
 module _ (c : ℕ) (op : Operation) where
+  -- whether a line is the one struck out
+  abbrev hit : Line → Bool
+  hit l = isLine c (op .cell) (op .slot .0) l
+
   -- a line of the cell that names the slot is the one struck out
-  entry-line :
-      (l : Line) →
-      isEntry c (op .cell) l ≡ true →
-      l .slot ≡ op .slot .0 →
-      isLine c (op .cell) (op .slot .0) l ≡ true
-  entry-line l e q =
+  entry-hit : (l : Line) → isEntry c (op .cell) l ≡ true → l .slot ≡ op .slot .0 → hit l ≡ true
+  entry-hit l e q =
       and-both (isEntry c (op .cell) l) (eqb (l .slot) (op .slot .0)) e (eq-eqb (l .slot) (op .slot .0) q)
 
   -- the line struck out is of the cell
-  line-entry : (l : Line) → isLine c (op .cell) (op .slot .0) l ≡ true → isEntry c (op .cell) l ≡ true
-  line-entry l e = and-left (isEntry c (op .cell) l) (eqb (l .slot) (op .slot .0)) e
+  hit-entry : (l : Line) → hit l ≡ true → isEntry c (op .cell) l ≡ true
+  hit-entry l e = and-left (isEntry c (op .cell) l) (eqb (l .slot) (op .slot .0)) e
 
   -- a line of another cell is not struck out
-  no-line : (l : Line) → isEntry c (op .cell) l ≡ false → isLine c (op .cell) (op .slot .0) l ≡ false
-  no-line l e = rw e
+  no-hit : (l : Line) → isEntry c (op .cell) l ≡ false → hit l ≡ false
+  no-hit l e = rw e
 
-  -- the other cells keep their lines
-  pub slots-other :
-      (d j : ℕ) →
-      (d ≡ c → j ≡ op .cell → ⊥) →
+  -- a function of the lines, told line by line, that the lines of the cell do not change is as before
+  struck-keeps :
+      {A : Type 0} (f : List Line → A) (step : Line → A → A) →
+      ((l : Line) (rest : List Line) → f (l ∷ rest) ≡ step l (f rest)) →
+      ((l : Line) (v : A) → isEntry c (op .cell) l ≡ true → step l v ≡ v) →
       (lines : List Line) →
-      slotsAt d j (struck c op lines) ≡ slotsAt d j lines
-  unfolding slotsAt struck
-  slots-other d j apart [] = refl
-  slots-other d j apart (l ∷ rest) =
-      by-test (isLine c (op .cell) (op .slot .0) l)
-      (λ (e : isLine c (op .cell) (op .slot .0) l ≡ true).
-      rw (e, entry-other c (op .cell) d j l apart (line-entry l e)))
-      (λ (e : isLine c (op .cell) (op .slot .0) l ≡ false). rw (e, slots-other d j apart rest))
+      f (struck c op lines) ≡ f lines
+  unfolding struck
+  struck-keeps f step cons same [] = refl
+  struck-keeps f step cons same (l ∷ rest) =
+      by-test (hit l)
+      (λ (e : hit l ≡ true). rw e (sym (cons l rest ∙ same l (f rest) (hit-entry l e))))
+      (λ (e : hit l ≡ false).
+      rw e (cons l (struck c op rest) ∙ ap (step l) (struck-keeps f step cons same rest) ∙ sym (cons l rest)))
 
-  -- the other clients keep theirs
-  pub lines-other : (d : ℕ) → (d ≡ c → ⊥) → (lines : List Line) → linesOf d (struck c op lines) ≡ linesOf d lines
-  unfolding linesOf struck
-  lines-other d apart [] = refl
-  lines-other d apart (l ∷ rest) =
-      by-test (isLine c (op .cell) (op .slot .0) l)
-      (λ (e : isLine c (op .cell) (op .slot .0) l ≡ true).
-      let q : linesOf d rest ≡ 0 + linesOf d rest = omega arith in
-      rw (e, entry-stays c (op .cell) d l apart (line-entry l e)) q)
-      (λ (e : isLine c (op .cell) (op .slot .0) l ≡ false). rw (e, lines-other d apart rest))
+  module _ (d j : ℕ) (far : d ≡ c → j ≡ op .cell → ⊥) where
+    -- every other cell keeps its lines
+    pub slots-other : (lines : List Line) → slotsAt d j (struck c op lines) ≡ slotsAt d j lines
+    unfolding slotsAt
+    slots-other =
+        struck-keeps (slotsAt d j) (λ l v. cond (isEntry d j l) (l .slot ∷ v) v) (λ l rest. refl)
+        (λ l v e. rw (entry-other c (op .cell) d j l far e))
 
-  -- the other cells show what they showed
-  pub shows-other :
-      (d j : ℕ) →
-      (d ≡ c → j ≡ op .cell → ⊥) →
-      (lines : List Line) →
-      shownBy d j (struck c op lines) ≡ shownBy d j lines
-  unfolding shownBy struck
-  shows-other d j apart [] = refl
-  shows-other d j apart (l ∷ rest) =
-      by-test (isLine c (op .cell) (op .slot .0) l)
-      (λ (e : isLine c (op .cell) (op .slot .0) l ≡ true).
-      rw (e, entry-other c (op .cell) d j l apart (line-entry l e)))
-      (λ (e : isLine c (op .cell) (op .slot .0) l ≡ false). rw (e, shows-other d j apart rest))
+    -- every other cell shows what it showed
+    pub shows-other : (lines : List Line) → shownBy d j (struck c op lines) ≡ shownBy d j lines
+    unfolding shownBy
+    shows-other =
+        struck-keeps (shownBy d j)
+        (λ l v. cond (isEntry d j l && isVisible (l .phase)) (Answer.Shows (record { 0 = l .slot })) v) (λ l rest. refl)
+        (λ l v e. rw (entry-other c (op .cell) d j l far e))
+
+  -- every other client has as many lines
+  lines-other : (d : ℕ) → (d ≡ c → ⊥) → (lines : List Line) → linesOf d (struck c op lines) ≡ linesOf d lines
+  unfolding linesOf
+  lines-other d far =
+      struck-keeps (linesOf d) (λ l v. cond (eqb (l .client) d) 1 0 + v) (λ l rest. refl)
+      (λ l v e. rw (entry-stays c (op .cell) d l far e) (zero-add v))
 
   -- the lines of the others are as before
   pub alike-struck : (lines : List Line) (d : ℕ) → (d ≡ c → ⊥) → Alike d lines (struck c op lines)
@@ -173,7 +173,7 @@ module _ (c : ℕ) (op : Operation) where
         shows = λ j. shows-other d j (λ e q. h e) lines;
       }
 
-  -- what showed nothing shows nothing
+  -- a cell that showed nothing shows nothing
   pub shows-struck :
       (d j : ℕ) (lines : List Line) →
       shownBy d j lines ≡ Answer.ShowsNothing →
@@ -181,164 +181,166 @@ module _ (c : ℕ) (op : Operation) where
   unfolding shownBy struck
   shows-struck d j [] e = e
   shows-struck d j (l ∷ rest) e =
-      by-test (isEntry d j l && isWritten (l .phase))
-      (λ (t : (isEntry d j l && isWritten (l .phase)) ≡ true).
-      absurd
-      (let s : Answer.Shows (record { 0 = l .slot }) ≡ Answer.ShowsNothing = rw t at e in let z : _≡_ {A = ℕ} 0 1 = cc
-      in omega arith))
-      (λ (f : (isEntry d j l && isWritten (l .phase)) ≡ false).
-      let r : shownBy d j rest ≡ Answer.ShowsNothing = rw f at e in
-      by-test (isLine c (op .cell) (op .slot .0) l)
-      (λ (q : isLine c (op .cell) (op .slot .0) l ≡ true). rw q r)
-      (λ (q : isLine c (op .cell) (op .slot .0) l ≡ false). rw (q, f) (shows-struck d j rest r)))
+      by-test (isEntry d j l && isVisible (l .phase))
+      (λ (t : (isEntry d j l && isVisible (l .phase)) ≡ true).
+      let s : Answer.Shows (record { 0 = l .slot }) ≡ Answer.ShowsNothing = rw t at e in
+      absurd (apart _ _ (λ q. omega arith) s))
+      (λ (t : (isEntry d j l && isVisible (l .phase)) ≡ false).
+      let r : shownBy d j rest ≡ Answer.ShowsNothing = rw t at e in
+      by-test (hit l)
+      (λ (q : hit l ≡ true). rw q r)
+      (λ (q : hit l ≡ false). rw (q, t) (shows-struck d j rest r)))
 
-  -- what is left is in range
+  -- the lines that are left are in range
   pub ranged-struck : (lines : List Line) → Ranged lines → Ranged (struck c op lines)
   unfolding struck
   ranged-struck [] r = r
   ranged-struck (l ∷ rest) r =
-      by-test (isLine c (op .cell) (op .slot .0) l)
-      (λ (e : isLine c (op .cell) (op .slot .0) l ≡ true). rw e (r .1 .1))
-      (λ (e : isLine c (op .cell) (op .slot .0) l ≡ false). rw e (r .0, (r .1 .0, ranged-struck rest (r .1 .1))))
+      by-test (hit l)
+      (λ (e : hit l ≡ true). rw e (r .1 .1))
+      (λ (e : hit l ≡ false). rw e (r .0, (r .1 .0, ranged-struck rest (r .1 .1))))
 
-  -- the one line of the cell goes, and with it one of the client's and one of the slot's
+  -- a cell with one line has none once it is struck out
   pub slots-struck :
       (lines : List Line) →
       slotsAt c (op .cell) lines ≡ op .slot .0 ∷ [] →
       slotsAt c (op .cell) (struck c op lines) ≡ []
   unfolding slotsAt struck
-  slots-struck [] e = absurd (let z : _≡_ {A = ℕ} 0 1 = cc in omega arith)
+  slots-struck [] e = absurd (no-cons (sym e))
   slots-struck (l ∷ rest) e =
       by-test (isEntry c (op .cell) l)
       (λ (t : isEntry c (op .cell) l ≡ true).
       let q : l .slot ∷ slotsAt c (op .cell) rest ≡ op .slot .0 ∷ [] = rw t at e in
-      rw (entry-line l t (cc)) (cc))
-      (λ (f : isEntry c (op .cell) l ≡ false).
-      let q : slotsAt c (op .cell) rest ≡ op .slot .0 ∷ [] = rw f at e in
-      rw (no-line l f, f) (slots-struck rest q))
+      rw (entry-hit l t (cc)) (cc))
+      (λ (t : isEntry c (op .cell) l ≡ false).
+      let q : slotsAt c (op .cell) rest ≡ op .slot .0 ∷ [] = rw t at e in
+      rw (no-hit l t, t) (slots-struck rest q))
 
-  -- the slot has one less, the others as many
+  -- a sum over the lines loses what the line struck out weighs
+  struck-less :
+      (f : List Line → ℕ) (weight : Line → ℕ) (n : ℕ) →
+      ((l : Line) (rest : List Line) → f (l ∷ rest) ≡ weight l + f rest) →
+      ((l : Line) → isEntry c (op .cell) l ≡ true → l .slot ≡ op .slot .0 → weight l ≡ n) →
+      (lines : List Line) →
+      slotsAt c (op .cell) lines ≡ op .slot .0 ∷ [] →
+      f lines ≡ n + f (struck c op lines)
+  unfolding slotsAt struck
+  struck-less f weight n cons weighs [] e = absurd (no-cons (sym e))
+  struck-less f weight n cons weighs (l ∷ rest) e =
+      by-test (isEntry c (op .cell) l)
+      (λ (t : isEntry c (op .cell) l ≡ true).
+      let q : l .slot ∷ slotsAt c (op .cell) rest ≡ op .slot .0 ∷ [] = rw t at e in
+      let same : l .slot ≡ op .slot .0 = cc in
+      rw (entry-hit l t same) (cons l rest ∙ ap (λ (m : ℕ). m + f rest) (weighs l t same)))
+      (λ (t : isEntry c (op .cell) l ≡ false).
+      let q : slotsAt c (op .cell) rest ≡ op .slot .0 ∷ [] = rw t at e in
+      let less = struck-less f weight n cons weighs rest q in
+      let here = cons l rest in
+      let there = cons l (struck c op rest) in
+      rw (no-hit l t) (omega arith))
+
+  -- the slot has one line less, the others as many
   pub naming-struck :
       (s : ℕ) (lines : List Line) →
       slotsAt c (op .cell) lines ≡ op .slot .0 ∷ [] →
       naming s lines ≡ cond (eqb (op .slot .0) s) 1 0 + naming s (struck c op lines)
-  unfolding slotsAt struck naming
-  naming-struck s [] e = absurd (let z : _≡_ {A = ℕ} 0 1 = cc in omega arith)
-  naming-struck s (l ∷ rest) e =
-      by-test (isEntry c (op .cell) l)
-      (λ (t : isEntry c (op .cell) l ≡ true).
-      let q : l .slot ∷ slotsAt c (op .cell) rest ≡ op .slot .0 ∷ [] = rw t at e in
-      let same : l .slot ≡ op .slot .0 = cc in
-      rw (entry-line l t same, same))
-      (λ (f : isEntry c (op .cell) l ≡ false).
-      let q : slotsAt c (op .cell) rest ≡ op .slot .0 ∷ [] = rw f at e in
-      rw (no-line l f, naming-struck s rest q) (swap (cond (eqb (l .slot) s) 1 0) _ _))
-    where
-      swap : (a b d : ℕ) → a + (b + d) ≡ b + (a + d)
-      swap a b d = omega arith
+  unfolding naming
+  naming-struck s =
+      struck-less (naming s) (λ l. cond (eqb (l .slot) s) 1 0) (cond (eqb (op .slot .0) s) 1 0) (λ l rest. refl)
+      (λ l t q. rw q)
 
-  -- the client has one less
+  -- the client has one line less
   pub lines-struck :
       (lines : List Line) →
       slotsAt c (op .cell) lines ≡ op .slot .0 ∷ [] →
       linesOf c lines ≡ 1 + linesOf c (struck c op lines)
-  unfolding slotsAt struck linesOf
-  lines-struck [] e = absurd (let z : _≡_ {A = ℕ} 0 1 = cc in omega arith)
-  lines-struck (l ∷ rest) e =
-      by-test (isEntry c (op .cell) l)
-      (λ (t : isEntry c (op .cell) l ≡ true).
-      let q : l .slot ∷ slotsAt c (op .cell) rest ≡ op .slot .0 ∷ [] = rw t at e in
-      let same : l .slot ≡ op .slot .0 = cc in
-      rw (entry-line l t same, eq-eqb (l .client) c (entry-client c (op .cell) l t)))
-      (λ (f : isEntry c (op .cell) l ≡ false).
-      let q : slotsAt c (op .cell) rest ≡ op .slot .0 ∷ [] = rw f at e in
-      rw (no-line l f, lines-struck rest q) (swap (cond (eqb (l .client) c) 1 0) _))
-    where
-      swap : (a b : ℕ) → a + (1 + b) ≡ 1 + (a + b)
-      swap a b = omega arith
+  unfolding linesOf
+  lines-struck =
+      struck-less (linesOf c) (λ l. cond (eqb (l .client) c) 1 0) 1 (λ l rest. refl)
+      (λ l t q. rw (eq-eqb (l .client) c (entry-client c (op .cell) l t)))
 
--- Lines turned to another phase.
+-- Lines in another phase.
 module _ (p : Phase) (c k : ℕ) where
-  -- a line turned names the same slot
-  turn-slot : (l : Line) → inPhase p c k l .slot ≡ l .slot
-  turn-slot l = by-test (isEntry c k l) (λ (e : isEntry c k l ≡ true). rw e) (λ (e : isEntry c k l ≡ false). rw e)
+  -- a line in another phase names the same slot
+  phase-slot : (l : Line) → inPhase p c k l .slot ≡ l .slot
+  phase-slot l = by-test (isEntry c k l) (λ (e : isEntry c k l ≡ true). rw e) (λ (e : isEntry c k l ≡ false). rw e)
 
-  -- and is of the same client
-  turn-client : (l : Line) → inPhase p c k l .client ≡ l .client
-  turn-client l = by-test (isEntry c k l) (λ (e : isEntry c k l ≡ true). rw e) (λ (e : isEntry c k l ≡ false). rw e)
+  -- a line in another phase is of the same client
+  phase-client : (l : Line) → inPhase p c k l .client ≡ l .client
+  phase-client l = by-test (isEntry c k l) (λ (e : isEntry c k l ≡ true). rw e) (λ (e : isEntry c k l ≡ false). rw e)
 
-  -- and of the same cell
-  turn-cell : (l : Line) → inPhase p c k l .cell ≡ l .cell
-  turn-cell l = by-test (isEntry c k l) (λ (e : isEntry c k l ≡ true). rw e) (λ (e : isEntry c k l ≡ false). rw e)
+  -- a line in another phase is of the same cell
+  phase-cell : (l : Line) → inPhase p c k l .cell ≡ l .cell
+  phase-cell l = by-test (isEntry c k l) (λ (e : isEntry c k l ≡ true). rw e) (λ (e : isEntry c k l ≡ false). rw e)
 
-  -- so the cells have the same lines
-  pub slots-turned : (d j : ℕ) (lines : List Line) → slotsAt d j (turnedTo p c k lines) ≡ slotsAt d j lines
-  unfolding slotsAt turnedTo
-  slots-turned d j [] = refl
-  slots-turned d j (l ∷ rest) = rw (turn-slot l, turn-client l, turn-cell l, slots-turned d j rest)
+  -- every cell has the same lines
+  pub slots-phased : (d j : ℕ) (lines : List Line) → slotsAt d j (phased p c k lines) ≡ slotsAt d j lines
+  unfolding slotsAt phased
+  slots-phased d j [] = refl
+  slots-phased d j (l ∷ rest) = rw (phase-slot l, phase-client l, phase-cell l, slots-phased d j rest)
 
-  -- the clients as many
-  pub lines-turned : (d : ℕ) (lines : List Line) → linesOf d (turnedTo p c k lines) ≡ linesOf d lines
-  unfolding linesOf turnedTo
-  lines-turned d [] = refl
-  lines-turned d (l ∷ rest) = rw (turn-client l, lines-turned d rest)
+  -- every client has as many lines
+  pub lines-phased : (d : ℕ) (lines : List Line) → linesOf d (phased p c k lines) ≡ linesOf d lines
+  unfolding linesOf phased
+  lines-phased d [] = refl
+  lines-phased d (l ∷ rest) = rw (phase-client l, lines-phased d rest)
 
-  -- the slots as many
-  pub naming-turned : (s : ℕ) (lines : List Line) → naming s (turnedTo p c k lines) ≡ naming s lines
-  unfolding naming turnedTo
-  naming-turned s [] = refl
-  naming-turned s (l ∷ rest) = rw (turn-slot l, naming-turned s rest)
+  -- as many lines name every slot
+  pub naming-phased : (s : ℕ) (lines : List Line) → naming s (phased p c k lines) ≡ naming s lines
+  unfolding naming phased
+  naming-phased s [] = refl
+  naming-phased s (l ∷ rest) = rw (phase-slot l, naming-phased s rest)
 
-  -- and all are in range
-  pub ranged-turned : (lines : List Line) → Ranged lines → Ranged (turnedTo p c k lines)
-  unfolding turnedTo
-  ranged-turned [] r = r
-  ranged-turned (l ∷ rest) r = rw (turn-client l, turn-cell l) (r .0, (r .1 .0, ranged-turned rest (r .1 .1)))
+  -- all lines are in range
+  pub ranged-phased : (lines : List Line) → Ranged lines → Ranged (phased p c k lines)
+  unfolding phased
+  ranged-phased [] r = r
+  ranged-phased (l ∷ rest) r = rw (phase-client l, phase-cell l) (r .0, (r .1 .0, ranged-phased rest (r .1 .1)))
 
-  -- the other cells show what they showed
+  -- every other cell shows what it showed
   pub shows-beside :
       (d j : ℕ) →
       (d ≡ c → j ≡ k → ⊥) →
       (lines : List Line) →
-      shownBy d j (turnedTo p c k lines) ≡ shownBy d j lines
-  unfolding shownBy turnedTo
-  shows-beside d j apart [] = refl
-  shows-beside d j apart (l ∷ rest) =
+      shownBy d j (phased p c k lines) ≡ shownBy d j lines
+  unfolding shownBy phased
+  shows-beside d j far [] = refl
+  shows-beside d j far (l ∷ rest) =
       by-test (isEntry c k l)
-      (λ (e : isEntry c k l ≡ true). rw (e, entry-other c k d j l apart e, shows-beside d j apart rest))
-      (λ (e : isEntry c k l ≡ false). rw (e, shows-beside d j apart rest))
+      (λ (e : isEntry c k l ≡ true). rw (e, entry-other c k d j l far e, shows-beside d j far rest))
+      (λ (e : isEntry c k l ≡ false). rw (e, shows-beside d j far rest))
 
   -- the lines of the others are as before
-  pub alike-turned : (lines : List Line) (d : ℕ) → (d ≡ c → ⊥) → Alike d lines (turnedTo p c k lines)
-  alike-turned lines d h =
+  pub alike-phased : (lines : List Line) (d : ℕ) → (d ≡ c → ⊥) → Alike d lines (phased p c k lines)
+  alike-phased lines d h =
       record {
-        slots = λ j. slots-turned d j lines;
-        lines = lines-turned d lines;
+        slots = λ j. slots-phased d j lines;
+        lines = lines-phased d lines;
         shows = λ j. shows-beside d j (λ e q. h e) lines;
       }
 
 -- a cell whose release is opened shows nothing
-pub shows-opened : (c k : ℕ) (lines : List Line) → shownBy c k (turnedTo opened c k lines) ≡ Answer.ShowsNothing
-unfolding shownBy turnedTo
-shows-opened c k [] = refl
-shows-opened c k (l ∷ rest) =
+pub shows-closing : (c k : ℕ) (lines : List Line) → shownBy c k (phased closing c k lines) ≡ Answer.ShowsNothing
+unfolding shownBy phased
+shows-closing c k [] = refl
+shows-closing c k (l ∷ rest) =
     by-test (isEntry c k l)
-    (λ (e : isEntry c k l ≡ true). rw (e, e) (shows-opened c k rest))
-    (λ (e : isEntry c k l ≡ false). rw (e, e) (shows-opened c k rest))
+    (λ (e : isEntry c k l ≡ true). rw (e, e) (shows-closing c k rest))
+    (λ (e : isEntry c k l ≡ false). rw (e, e) (shows-closing c k rest))
 
 -- a cell that is written shows its line
-pub shows-written :
+pub shows-visible :
     (c k s : ℕ) (lines : List Line) →
     slotsAt c k lines ≡ s ∷ [] →
-    shownBy c k (turnedTo written c k lines) ≡ Answer.Shows (record { 0 = s })
-unfolding shownBy turnedTo slotsAt
-shows-written c k s [] q = absurd (let z : _≡_ {A = ℕ} 0 1 = cc in omega arith)
-shows-written c k s (l ∷ rest) q =
+    shownBy c k (phased visible c k lines) ≡ Answer.Shows (record { 0 = s })
+unfolding shownBy phased slotsAt
+shows-visible c k s [] q = absurd (no-cons (sym q))
+shows-visible c k s (l ∷ rest) q =
     by-test (isEntry c k l)
     (λ (e : isEntry c k l ≡ true).
     let r : l .slot ∷ slotsAt c k rest ≡ s ∷ [] = rw e at q in
     let same : l .slot ≡ s = cc in rw (e, e, same))
-    (λ (e : isEntry c k l ≡ false). rw (e, e) (shows-written c k s rest (rw e at q)))
+    (λ (e : isEntry c k l ≡ false). rw (e, e) (shows-visible c k s rest (rw e at q)))
 
 -- a cell with no line shows nothing
 pub shows-none : (c k : ℕ) (lines : List Line) → slotsAt c k lines ≡ [] → shownBy c k lines ≡ Answer.ShowsNothing
@@ -348,7 +350,7 @@ shows-none c k (l ∷ rest) q =
     by-test (isEntry c k l)
     (λ (e : isEntry c k l ≡ true).
     let r : l .slot ∷ slotsAt c k rest ≡ [] = rw e at q in
-    absurd (let z : _≡_ {A = ℕ} 0 1 = cc in omega arith))
+    absurd (no-cons r))
     (λ (e : isEntry c k l ≡ false). rw e (shows-none c k rest (rw e at q)))
 
 -- The pigeonhole: a sum over the numbers below n.
@@ -356,7 +358,7 @@ unfoldable sumTo : ℕ → (ℕ → ℕ) → ℕ
 sumTo zero f = 0
 sumTo (suc n) f = f n + sumTo n f
 
--- a sum of sums
+-- a sum of two terms is the sum of their sums
 sum-add : (n : ℕ) (f g : ℕ → ℕ) → sumTo n (λ i. f i + g i) ≡ sumTo n f + sumTo n g
 unfolding sumTo
 sum-add zero f g = refl
@@ -400,61 +402,50 @@ unfolding sumTo
 sum-zero zero = refl
 sum-zero (suc n) = rw (sum-zero n)
 
--- a line more in a cell of the client is one more there
+-- one and n is the number after n
+one-more : (n : ℕ) → 1 + n ≡ suc n
+one-more n = omega arith
+
+-- a line is one in its own cell
 share :
     (c k : ℕ) (l : Line) (rest : List Line) →
-    eqb (l .client) c ≡ true →
-    length (slotsAt c k (l ∷ rest)) ≡ cond (eqb (l .cell) k) 1 0 + length (slotsAt c k rest)
+    length (slotsAt c k (l ∷ rest)) ≡ cond (isEntry c k l) 1 0 + length (slotsAt c k rest)
 unfolding slotsAt
-share c k l rest e =
-    by-test (eqb (l .cell) k)
-    (λ (t : eqb (l .cell) k ≡ true).
-    rw (e, t) (let q : suc (length (slotsAt c k rest)) ≡ 1 + length (slotsAt c k rest) = omega arith in q))
-    (λ (t : eqb (l .cell) k ≡ false).
-    rw (e, t) (let q : length (slotsAt c k rest) ≡ 0 + length (slotsAt c k rest) = omega arith in q))
+share c k l rest =
+    by-test (isEntry c k l)
+    (λ (t : isEntry c k l ≡ true). rw t (sym (one-more (length (slotsAt c k rest)))))
+    (λ (t : isEntry c k l ≡ false). rw t (sym (zero-add (length (slotsAt c k rest)))))
 
--- and no more elsewhere
-no-share :
-    (c k : ℕ) (l : Line) (rest : List Line) →
-    eqb (l .client) c ≡ false →
-    length (slotsAt c k (l ∷ rest)) ≡ length (slotsAt c k rest)
-unfolding slotsAt
-no-share c k l rest e = rw e
-
--- no lines, no line of a cell
-none-share : (c k : ℕ) → length (slotsAt c k []) ≡ 0
-unfolding slotsAt
-none-share c k = refl
+-- a line of the client is in one of its cells
+one-cell :
+    (c : ℕ) (l : Line) → l .cell < cells → sumTo cells (λ k. cond (isEntry c k l) 1 0) ≡ cond (eqb (l .client) c) 1 0
+one-cell c l b =
+    by-test (eqb (l .client) c)
+    (λ (t : eqb (l .client) c ≡ true). rw t (sum-one (l .cell) cells b))
+    (λ (t : eqb (l .client) c ≡ false). rw t (sum-zero cells))
 
 -- the lines of a client are those of its cells
-cells-of : (c : ℕ) (lines : List Line) → Ranged lines → linesOf c lines ≡ sumTo 16 (λ k. length (slotsAt c k lines))
-unfolding linesOf
-cells-of c [] r = sym (sum-same 16 (λ k. length (slotsAt c k [])) (λ k. 0) (λ k. none-share c k) ∙ sum-zero 16)
+cells-of : (c : ℕ) (lines : List Line) → Ranged lines → linesOf c lines ≡ sumTo cells (λ k. length (slotsAt c k lines))
+unfolding linesOf slotsAt
+cells-of c [] r = sym (sum-zero cells)
 cells-of c (l ∷ rest) r =
-    let e : linesOf c rest ≡ sumTo 16 (λ k. length (slotsAt c k rest)) = cells-of c rest (r .1 .1) in
-    by-test (eqb (l .client) c)
-    (λ (t : eqb (l .client) c ≡ true).
-    let o = sum-one (l .cell) 16 (r .1 .0) in
-    let q = sum-add 16 (λ k. cond (eqb (l .cell) k) 1 0) (λ k. length (slotsAt c k rest)) in
+    let e = cells-of c rest (r .1 .1) in
+    let o = one-cell c l (r .1 .0) in
+    let q = sum-add cells (λ k. cond (isEntry c k l) 1 0) (λ k. length (slotsAt c k rest)) in
     let s =
-    sum-same 16 (λ k. length (slotsAt c k (l ∷ rest))) (λ k. cond (eqb (l .cell) k) 1 0 + length (slotsAt c k rest))
-    (λ k. share c k l rest t)
+    sum-same cells (λ k. length (slotsAt c k (l ∷ rest))) (λ k. cond (isEntry c k l) 1 0 + length (slotsAt c k rest))
+    (λ k. share c k l rest)
     in
-    rw t (omega arith))
-    (λ (t : eqb (l .client) c ≡ false).
-    let s =
-    sum-same 16 (λ k. length (slotsAt c k (l ∷ rest))) (λ k. length (slotsAt c k rest)) (λ k. no-share c k l rest t)
-    in
-    rw t (omega arith))
+    omega arith
 
 -- the lines are those of the clients
-clients-of : (lines : List Line) → Ranged lines → length lines ≡ sumTo 8 (λ c. linesOf c lines)
+clients-of : (lines : List Line) → Ranged lines → length lines ≡ sumTo clients (λ c. linesOf c lines)
 unfolding linesOf
-clients-of [] r = sym (sum-zero 8)
+clients-of [] r = sym (sum-zero clients)
 clients-of (l ∷ rest) r =
     let e = clients-of rest (r .1 .1) in
-    let q = sum-add 8 (λ c. cond (eqb (l .client) c) 1 0) (λ c. linesOf c rest) in
-    let o = sum-one (l .client) 8 (r .0) in
+    let q = sum-add clients (λ c. cond (eqb (l .client) c) 1 0) (λ c. linesOf c rest) in
+    let o = sum-one (l .client) clients (r .0) in
     omega arith
 
 -- no more lines name a slot than there are
@@ -469,26 +460,30 @@ naming-few s (l ∷ rest) =
 
 -- each cell has at most one line
 abbrev pub Single : ℕ → List Line → Type 0
-Single c lines = (k : ℕ) → k < 16 → length (slotsAt c k lines) ≤ 1
+Single c lines = (k : ℕ) → k < cells → length (slotsAt c k lines) ≤ 1
 
--- a client has at most 16 lines
-pub few-of : (c : ℕ) (lines : List Line) → Ranged lines → Single c lines → linesOf c lines ≤ 16
+-- a client has at most as many lines as cells
+pub few-of : (c : ℕ) (lines : List Line) → Ranged lines → Single c lines → linesOf c lines ≤ cells
 few-of c lines r h =
-    rw (cells-of c lines r) (let b = sum-bound 1 16 (λ k. length (slotsAt c k lines)) h in omega arith)
+    rw (cells-of c lines r) (let b = sum-bound 1 cells (λ k. length (slotsAt c k lines)) h in omega arith)
 
--- a slot has at most 128 lines
-pub few-naming : (s : ℕ) (lines : List Line) → Ranged lines → ((c : ℕ) → c < 8 → Single c lines) → naming s lines ≤ 128
+-- no more lines name a slot than there are cells
+pub few-naming :
+    (s : ℕ) (lines : List Line) →
+    Ranged lines →
+    ((c : ℕ) → c < clients → Single c lines) →
+    naming s lines ≤ countLimit
 few-naming s lines r h =
     let n = naming-few s lines in
     let e = clients-of lines r in
-    let b = sum-bound 16 8 (λ c. linesOf c lines) (λ c l. few-of c lines r (h c l)) in
+    let b = sum-bound cells clients (λ c. linesOf c lines) (λ c l. few-of c lines r (h c l)) in
     omega arith
 
 -- a client none of whose cells has a line has none
 pub no-lines :
     (c : ℕ) (lines : List Line) →
     Ranged lines →
-    ((k : ℕ) → k < 16 → slotsAt c k lines ≡ []) →
+    ((k : ℕ) → k < cells → slotsAt c k lines ≡ []) →
     NoLines c lines
 unfolding slotsAt
 no-lines c [] r h = tt
@@ -501,12 +496,12 @@ no-lines c (l ∷ rest) r h =
         and-both (eqb (l .client) c) (eqb (l .cell) k) (eq-eqb (l .client) c e) (eq-eqb (l .cell) k f)
         in
         let none : l .slot ∷ slotsAt c k rest ≡ [] = rw both at q in
-        let z : _≡_ {A = ℕ} 0 1 = cc in omega arith
+        no-cons none
 
     rest-none : (k : ℕ) → slotsAt c k (l ∷ rest) ≡ [] → slotsAt c k rest ≡ []
     rest-none k q =
         by-test (isEntry c k l)
         (λ (t : isEntry c k l ≡ true).
         let none : l .slot ∷ slotsAt c k rest ≡ [] = rw t at q in
-        absurd (let z : _≡_ {A = ℕ} 0 1 = cc in omega arith))
+        absurd (no-cons none))
         (λ (t : isEntry c k l ≡ false). rw t at q)

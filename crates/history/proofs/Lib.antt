@@ -1,9 +1,10 @@
 -- Demand 3, in the order in which it is built.
--- `Updates` has one value of a function replaced by another, and a test taken apart.
+-- `Updates` has one value of a function replaced by another, a test taken apart, and answers told apart.
 -- `Counting` has the lines of a ledger counted, and the pigeonhole over the cells.
 -- `Invariant` says what holds of every world of a history, over functions and not over lists.
 -- `Frame` has that all others keep their words where one client moves.
 -- `Moves` has the six moves of a client or of its rescuer.
+-- `Stores` has what the one store of a call changes, over functions.
 -- `Steps` has which move each stage of an operation is.
 -- `Rescues` has which move each step of a rescue is.
 -- `View` sees a world as those functions, and a store of the world as a store of the view.
@@ -20,6 +21,7 @@ pub mod Counting
 pub mod Invariant
 pub mod Frame
 pub mod Moves
+pub mod Stores
 pub mod Steps
 pub mod Rescues
 pub mod View

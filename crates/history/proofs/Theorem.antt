@@ -2,148 +2,118 @@
 -- nothing.
 use Prim.Native.Nat.{ℕ, _<_, _≤_}
 use mathlib.Core.Bool.{true, false, not}
-use mathlib.Core.List.{List, []}
-use mathlib.Core.Path.{_≡_, sym, ap, _∙_}
+use mathlib.Core.List.{List, [], _∷_}
+use mathlib.Core.Path.{_≡_, refl, sym, ap, _∙_}
 use native.Mathlib.Omega.{arith}
 use lib.Dec.{ltb}
 use lib.ListN.{length, getD, List·getD-eq-default}
 use borrow.Author.Tests.{lt-ltb, ltb-true, ltb-false}
+use Rattle.numbers.specs.Sizes.{clients, cells, eraLimit}
 use Rattle.numbers.specs.declared.answers.Answer.{Answer}
 use Rattle.block.specs.declared.Standing.{Standing}
 use Rattle.block.specs.Block.{cellAt}
 use Rattle.stages.specs.Stages.{isIdle}
+use Rattle.calls.specs.declared.Act.{Act}
 use Rattle.calls.specs.declared.Call.{Call}
 use Rattle.calls.specs.declared.Outcome.{Outcome}
-use Rattle.calls.specs.Checks.{sameStanding, isEmpty, refused}
-use Rattle.calls.specs.Calls.{checks, effect, plainCall, checkedCall, clientOf}
+use Rattle.calls.specs.Checks.{Check, sameStanding, stands, isEmpty, refused}
+use Rattle.calls.specs.Calls.{asks, effect, plainCall, checkedCall}
+use Rattle.calls.specs.Named.{of, release, lookUp}
 use Rattle.world.specs.World.{World, recordsAt, fresh, outcome, answer, run}
-use Rattle.history.specs.Ledger.{Line, ledger, shownBy}
+use Rattle.history.specs.Ledger.{Line, givenTo, ledger, shownBy}
 use Rattle.history.specs.Demand3.{standing, era, Holds, Demand3}
-use Rattle.history.proofs.Updates.{by-test, not-both}
+use Rattle.history.proofs.Updates.{by-test}
 use Rattle.history.proofs.Invariant.{Won, none}
-use Rattle.history.proofs.Outcomes.{accepted-is, Passed}
+use Rattle.history.proofs.Outcomes.{accepted-is, checksOf, effectOf, Passed}
 use Rattle.history.proofs.Effects.{given, standing-is, clause-of}
 use Rattle.history.proofs.Histories.{Good, reached}
 use Rattle.history.proofs.Fresh.{fresh-good}
 use Rattle.history.proofs.Limits.{few-eras, all-within}
-use Rattle.history.proofs.Answers.{isBeyond, never-beyond}
-use Rattle.history.proofs.Completion.{same-standing, accepts-it, no-entries, no-lines-left, completes}
+use Rattle.history.proofs.Answers.{never-beyond}
+use Rattle.history.proofs.Completion.{accepts-it, no-entries, no-lines-left, completes}
 
--- a standing is not the one asked for
+-- another standing than the one asked for does not pass
 other-standing : (asked found : Standing) → (found ≡ asked → ⊥) → sameStanding asked found ≡ false
 other-standing asked found o =
     by-test (sameStanding asked found) (λ e. absurd (o (standing-is asked found e))) (λ e. e)
 
-module _ (w : World) (won : ℕ → Won) (lines : List Line) (good : Good w won lines) where
-  -- the look up of a running client is accepted, and shows what the ledger says
-  look-passes :
-      (c k : ℕ) →
-      c < 8 →
-      k < 16 →
-      standing w c ≡ Standing.Running →
-      Passed (checks (Call.LookUp c k) (w .block) (w .eras) (given w c))
-  unfolding checks
-  look-passes c k l m s = (lt-ltb c 8 l, (lt-ltb k 16 m, (rw s (same-standing Standing.Running), tt)))
+module _ (w : World) (ghosts : ℕ → Won) (lines : List Line) (good : Good w ghosts lines) where
+  -- what a call answers whose checks pass
+  answers : (call : Call) → Passed (checksOf w call) → answer w call ≡ effectOf w call .answer
+  answers call p = ap (λ (o : Outcome). o .answer) (accepted-is w call (accepts-it w ghosts lines good call p))
 
-  -- and shows what the ledger says
-  looks : (c k : ℕ) → c < 8 → k < 16 → standing w c ≡ Standing.Running → answer w (Call.LookUp c k) ≡ shownBy c k lines
-  unfolding effect
+  -- the look up of a running client shows what the ledger says
+  looks :
+      (c k : ℕ) → c < clients → k < cells → standing w c ≡ Standing.Running → answer w (lookUp c k) ≡ shownBy c k lines
+  unfolding asks effect
   looks c k l m s =
-      ap (λ (o : Outcome). o .answer)
-      (accepted-is w (Call.LookUp c k) (accepts-it w won lines good (Call.LookUp c k) (look-passes c k l m s)))
-      ∙ sym (clause-of w won lines (good .inv) c l Standing.Running s .2 k m)
+      answers (lookUp c k) (lt-ltb c clients l, (lt-ltb k cells m, (rw s, tt)))
+      ∙ sym (clause-of w ghosts lines (good .inv) c l Standing.Running s .2 k m)
 
-  -- so does the release of a full cell with nothing under way
-  release-passes :
-      (c k : ℕ) →
-      c < 8 →
-      k < 16 →
-      standing w c ≡ Standing.Running →
-      isIdle (recordsAt (w .records) c .client) ≡ true →
-      isEmpty (cellAt (w .block .cells) c k) ≡ false →
-      Passed (checks (Call.Release c k) (w .block) (w .eras) (given w c))
-  unfolding checks
-  release-passes c k l m s i e =
-      (lt-ltb c 8 l, (lt-ltb k 16 m, (rw s (same-standing Standing.Running), (i, (ap not e, tt)))))
-
-  -- a release of a full cell is accepted
+  -- the release of a full cell with nothing under way is accepted
   releases :
       (c k : ℕ) →
-      c < 8 →
-      k < 16 →
+      c < clients →
+      k < cells →
       standing w c ≡ Standing.Running →
       isIdle (recordsAt (w .records) c .client) ≡ true →
       isEmpty (cellAt (w .block .cells) c k) ≡ false →
-      answer w (Call.Release c k) ≡ Answer.Accepted
-  unfolding effect
+      answer w (release c k) ≡ Answer.Accepted
+  unfolding asks effect
   releases c k l m s i e =
-      ap (λ (o : Outcome). o .answer)
-      (accepted-is w (Call.Release c k) (accepts-it w won lines good (Call.Release c k) (release-passes c k l m s i e)))
+      answers (release c k)
+      (lt-ltb c clients l, (lt-ltb k cells m, (rw s, (i, (ap not e, tt)))))
 
-  -- nothing is beyond its limits
-  plain : (call : Call) → outcome w call ≡ plainCall call (w .block) (w .eras) (recordsAt (w .records) (clientOf call))
+  -- in a history the checked call is the plain one
+  plain : (call : Call) → outcome w call ≡ plainCall call (w .block) (w .eras) (givenTo w call)
   unfolding checkedCall
-  plain call = rw (all-within w won lines good (clientOf call))
+  plain call = rw (all-within w ghosts lines good (call .client))
 
-  -- so no call answers 11
+  -- no call of a history answers 11
   never : (call : Call) → answer w call ≡ Answer.BeyondLimits → ⊥
   never call e =
-      not-both (isBeyond (answer w call)) (ap isBeyond e)
-      (ap (λ (o : Outcome). isBeyond (o .answer)) (plain call)
-      ∙ never-beyond call (w .block) (w .eras) (recordsAt (w .records) (clientOf call)))
+      never-beyond call (w .block) (w .eras) (givenTo w call) (ap (λ (o : Outcome). o .answer) (sym (plain call)) ∙ e)
 
   -- an own era is within its limit, whichever client is asked for
-  own-within : (c : ℕ) → era w c ≤ 4294967216
+  own-within : (c : ℕ) → era w c ≤ eraLimit
   own-within c =
-      by-test (ltb c 8)
-      (λ (t : ltb c 8 ≡ true). let f = few-eras w won lines good c (ltb-true c 8 t) in omega arith)
-      (λ (t : ltb c 8 ≡ false).
-      let m : length (w .eras) ≤ c = let s = good .shape .eras in let b = ltb-false c 8 t in omega arith in
+      by-test (ltb c clients)
+      (λ (t : ltb c clients ≡ true). let f = few-eras w ghosts lines good c (ltb-true c clients t) in omega arith)
+      (λ (t : ltb c clients ≡ false).
+      let m : length (w .eras) ≤ c = let s = good .shape .eras in let b = ltb-false c clients t in omega arith in
       let e : getD (w .eras) c [] ≡ [] = List·getD-eq-default (w .eras) [] m in
       rw e (omega arith))
 
-  -- a step, a take over, a rescue step in another standing
-  no-step :
-      (c : ℕ) →
-      (standing w c ≡ Standing.Running → ⊥) →
-      c < 8 →
-      outcome w (Call.Step c) ≡ refused Answer.WrongStanding (recordsAt (w .records) c)
-  unfolding checkedCall plainCall checks
-  no-step c o l = rw (all-within w won lines good c, lt-ltb c 8 l, other-standing Standing.Running (standing w c) o)
+  -- an act that asks first for a standing is refused in every other
+  wrong-standing :
+      (act : Act) (asked : Standing) (rest : List Check) (c : ℕ) →
+      asks act c (w .block) (w .eras) (given w c) ≡ stands asked (standing w c) ∷ rest →
+      (standing w c ≡ asked → ⊥) →
+      c < clients →
+      outcome w (of c act) ≡ refused Answer.WrongStanding (given w c)
+  unfolding plainCall
+  wrong-standing act asked rest c e o l =
+      plain (of c act) ∙ rw (lt-ltb c clients l, e, other-standing asked (standing w c) o)
 
-  -- so is a take over in another than failed
-  no-take-over :
-      (c : ℕ) →
-      (standing w c ≡ Standing.Failed → ⊥) →
-      c < 8 →
-      outcome w (Call.TakeOver c) ≡ refused Answer.WrongStanding (recordsAt (w .records) c)
-  unfolding checkedCall plainCall checks
-  no-take-over c o l = rw (all-within w won lines good c, lt-ltb c 8 l, other-standing Standing.Failed (standing w c) o)
-
-  -- and a rescue step in another than in rescue
-  no-rescue :
-      (c : ℕ) →
-      (standing w c ≡ Standing.InRescue → ⊥) →
-      c < 8 →
-      outcome w (Call.RescueStep c) ≡ refused Answer.WrongStanding (recordsAt (w .records) c)
-  unfolding checkedCall plainCall checks
-  no-rescue c o l = rw (all-within w won lines good c, lt-ltb c 8 l, other-standing Standing.InRescue (standing w c) o)
-
-  -- one history
+  -- what holds after one history
   history-holds : (h : List Call) → Holds h w lines
+  unfolding asks
   history-holds h =
       record {
-        count = good .inv .count;
-        lookup = looks;
-        rescue-leaves-nothing =
-            λ c l s e. (no-entries w won lines good c l s e, no-lines-left w won lines good c l s e);
+        keeps =
+            record {
+              count = good .inv .count;
+              lookup = looks;
+              rescue-leaves-nothing =
+                  λ c l s e. (no-entries w ghosts lines good c l s e, no-lines-left w ghosts lines good c l s e);
+            };
         within = never;
         counts-within = λ s. good .inv .words s .count;
         eras-within = own-within;
         lets-go = releases;
-        only-running-steps = no-step;
-        only-failed-taken-over = no-take-over;
-        only-in-rescue-rescued = no-rescue;
+        only-running-steps = λ c. wrong-standing Act.Step Standing.Running _ c refl;
+        only-failed-taken-over = λ c. wrong-standing Act.TakeOver Standing.Failed _ c refl;
+        only-in-rescue-rescued = λ c. wrong-standing Act.RescueStep Standing.InRescue _ c refl;
       }
 
 -- demand 3, whole

@@ -1,5 +1,6 @@
 -- Demand 3, over every history of calls from a fresh block, clients and rescuers failing after any step. A reader of
--- this file needs World.antt (what a history is) and Ledger.antt (the ledger, from the history alone).
+-- this file needs World.antt (what a history is) and Ledger.antt (the ledger, from the history alone). Its parts (a),
+-- (b) and (d) are said of any machine, all of it of the machine of the rules.
 use Prim.Native.Nat.{ℕ, _+_, _<_, _≤_}
 use mathlib.Core.Bool.{true, false, cond}
 use mathlib.Core.List.{List, [], _∷_}
@@ -13,9 +14,10 @@ use Rattle.block.specs.Block.{headerAt, cellAt, standingAt}
 use Rattle.block.specs.Matrix.{ownEra}
 use Rattle.calls.specs.declared.Call.{Call}
 use Rattle.calls.specs.Checks.{isEmpty, refused}
+use Rattle.calls.specs.Named.{release, step, fail, takeOver, rescueStep, lookUp}
 use Rattle.stages.specs.Stages.{isIdle}
-use Rattle.world.specs.World.{World, recordsAt, fresh, outcome, answer, after, run}
-use Rattle.history.specs.Ledger.{Line, ledger, naming, shownBy, swapsWon, pastSwap}
+use Rattle.world.specs.World.{World, Machine, rules, recordsAt, answerBy, afterBy, runBy, fresh, outcome, answer, after, run}
+use Rattle.history.specs.Ledger.{Line, ledgerBy, ledger, naming, shownBy, swapsWon, pastSwap}
 
 -- the standing of client c in a world
 abbrev pub standing : World → ℕ → Standing
@@ -34,24 +36,33 @@ NoLines c (l ∷ rest) = (l .client ≡ c → ⊥) × NoLines c rest
 abbrev pub NoEntries : ℕ → World → Type 0
 NoEntries c w = (k : ℕ) → k < cells → cellAt (w .block .cells) c k ≡ Cell.Empty
 
--- D3, for one history h: w is the world and lines the ledger that it leads to
-pub record Holds (h : List Call) (w : World) (lines : List Line) : Type 0 where
+-- D3 (a), (b) and (d) of a machine, for one history: w is the world and lines the ledger that it leads to
+pub record KeepsAt (m : Machine) (w : World) (lines : List Line) : Type 0 where
   -- (a) each slot's count equals the number of ledger lines that name it
   pub count : (s : ℕ) → s < slots → countIn (headerAt (w .block .headers) s) ≡ naming s lines
-  -- (b) a look up of a running client shows a line once it is written until its release opens, and nothing else
+  -- (b) a look up of a running client shows a line once its cell is written until its release opens, and nothing else
   pub lookup :
       (c k : ℕ) →
       c < clients →
       k < cells →
       standing w c ≡ Standing.Running →
-      answer w (Call.LookUp c k) ≡ shownBy c k lines
+      answerBy m w (lookUp c k) ≡ shownBy c k lines
   -- (d) a rescue that answers 100 leaves the client no entries and no lines
   pub rescue-leaves-nothing :
       (c : ℕ) →
       c < clients →
       standing w c ≡ Standing.InRescue →
-      answer w (Call.RescueStep c) ≡ Answer.Finished →
-      NoEntries c (after w (Call.RescueStep c)) × NoLines c lines
+      answerBy m w (rescueStep c) ≡ Answer.Finished →
+      NoEntries c (afterBy m w (rescueStep c)) × NoLines c lines
+
+-- D3 (a), (b) and (d) of a machine after a history of its own
+abbrev pub Keeps : Machine → List Call → Type 0
+Keeps m h = KeepsAt m (runBy m (m .start) h) (ledgerBy m (m .start) [] h)
+
+-- D3, for one history h of the rules: w is the world and lines the ledger that it leads to
+pub record Holds (h : List Call) (w : World) (lines : List Line) : Type 0 where
+  -- (a), (b) and (d)
+  pub keeps : KeepsAt rules w lines
   -- no history goes beyond its limits: no call answers 11, counts and own eras stay below theirs
   pub within : (call : Call) → answer w call ≡ Answer.BeyondLimits → ⊥
   pub counts-within : (s : ℕ) → countIn (headerAt (w .block .headers) s) ≤ countLimit
@@ -64,23 +75,23 @@ pub record Holds (h : List Call) (w : World) (lines : List Line) : Type 0 where
       standing w c ≡ Standing.Running →
       isIdle (recordsAt (w .records) c .client) ≡ true →
       isEmpty (cellAt (w .block .cells) c k) ≡ false →
-      answer w (Call.Release c k) ≡ Answer.Accepted
+      answer w (release c k) ≡ Answer.Accepted
   -- the premises: only a running client takes a step, and only a failed one gets a rescuer
   pub only-running-steps :
       (c : ℕ) →
       (standing w c ≡ Standing.Running → ⊥) →
       c < clients →
-      outcome w (Call.Step c) ≡ refused Answer.WrongStanding (recordsAt (w .records) c)
+      outcome w (step c) ≡ refused Answer.WrongStanding (recordsAt (w .records) c)
   pub only-failed-taken-over :
       (c : ℕ) →
       (standing w c ≡ Standing.Failed → ⊥) →
       c < clients →
-      outcome w (Call.TakeOver c) ≡ refused Answer.WrongStanding (recordsAt (w .records) c)
+      outcome w (takeOver c) ≡ refused Answer.WrongStanding (recordsAt (w .records) c)
   pub only-in-rescue-rescued :
       (c : ℕ) →
       (standing w c ≡ Standing.InRescue → ⊥) →
       c < clients →
-      outcome w (Call.RescueStep c) ≡ refused Answer.WrongStanding (recordsAt (w .records) c)
+      outcome w (rescueStep c) ≡ refused Answer.WrongStanding (recordsAt (w .records) c)
 
 -- D3 (c): client c runs in w and fails; after any calls that follow its rescue answers 100, however many rescuers died
 -- on the way. Completing an operation is what raises the own era. It has then risen by one for each swap that was won
@@ -91,12 +102,12 @@ CompletesExactlyWhenWon =
     (h later : List Call) (c : ℕ) →
     c < clients →
     let w = run fresh h in
-    let end = run (after w (Call.Fail c)) later in
+    let end = run (after w (fail c)) later in
     standing w c ≡ Standing.Running →
     standing end c ≡ Standing.InRescue →
-    answer end (Call.RescueStep c) ≡ Answer.Finished →
-    era (after end (Call.RescueStep c)) c
-    ≡ era w c + swapsWon c (after w (Call.Fail c)) later + cond (pastSwap (recordsAt (w .records) c .client .stage)) 1 0
+    answer end (rescueStep c) ≡ Answer.Finished →
+    era (after end (rescueStep c)) c
+    ≡ era w c + swapsWon c (after w (fail c)) later + cond (pastSwap (recordsAt (w .records) c .client .stage)) 1 0
 
 -- demand 3, whole
 pub record Demand3 : Type 0 where

@@ -2,7 +2,7 @@
 -- or a standing is none of those named, that a stage is none its operation has, and that a rescuer keeps a log without
 -- the words its step reads (R1.12 l, m, o, p) no value of these types can say.
 use Prim.Native.Nat.{ℕ}
-use mathlib.Core.Bool.{Bool, true, false, not, _&&_, _||_}
+use mathlib.Core.Bool.{Bool, true, not, _&&_, _||_}
 use mathlib.Core.List.{List}
 use lib.Dec.{ltb, leb, eqb}
 use lib.ListN.{getD}
@@ -10,13 +10,16 @@ use Rattle.numbers.specs.Sizes.{clients, slots, cells, eraLimit, countLimit}
 use Rattle.header.specs.Header.{eraIn, countIn, clientIn, spareIn}
 use Rattle.block.specs.declared.Block.{Block}
 use Rattle.block.specs.declared.Entry.{Entry}
-use Rattle.block.specs.declared.Kind.{Kind}
 use Rattle.block.specs.declared.Log.{Log}
 use Rattle.block.specs.declared.LogWord.{LogWord}
 use Rattle.block.specs.declared.Operation.{Operation}
+use Rattle.block.specs.Block.{empty}
 use Rattle.stages.specs.declared.ClientRecord.{ClientRecord}
+use Rattle.stages.specs.declared.Kept.{Kept}
+use Rattle.stages.specs.declared.Open.{Open}
 use Rattle.stages.specs.declared.Stage.{Stage}
-use Rattle.rescue.specs.declared.RescueStep.{RescueStep}
+use Rattle.stages.specs.Stages.{openIn, keptIn, releases}
+use Rattle.rescue.specs.declared.RescuerStep.{RescuerStep}
 use Rattle.rescue.specs.declared.RescuerRecord.{RescuerRecord}
 use Rattle.limits.specs.Every.{every, everyFrom}
 
@@ -27,7 +30,7 @@ headerWithin w =
 
 -- R1.12: a cell's byte is empty or names a slot that there is
 abbrev pub cellWithin : ℕ → Bool
-cellWithin byte = eqb byte 255 || ltb byte slots
+cellWithin byte = eqb byte empty || ltb byte slots
 
 -- R1.12: an operation names a cell and a slot that there are
 abbrev pub operationWithin : Operation → Bool
@@ -55,45 +58,29 @@ rowWithin i row = ltb 0 (getD row i 0) && every (λ (e : ℕ). leb e eraLimit) r
 abbrev pub erasWithin : List (List ℕ) → Bool
 erasWithin eras = everyFrom rowWithin 0 eras
 
--- R1.12: what a stage keeps, an operation and a header
-abbrev pub keepsWithin : Operation → ℕ → Bool
-keepsWithin op h = operationWithin op && headerWithin h
+-- R1.12: the operation that is under way
+abbrev pub openWithin : Open → Bool
+openWithin Open.Nothing = true
+openWithin (Open.Doing op) = operationWithin op
+
+-- R1.12: the header that is kept
+abbrev pub keptWithin : Kept → Bool
+keptWithin Kept.Nothing = true
+keptWithin (Kept.Word h) = headerWithin h
 
 -- R1.12: a stage of a working record
 unfoldable pub stageWithin : Stage → Bool
-stageWithin Stage.Idle = true
-stageWithin (Stage.Load op) = operationWithin op
-stageWithin (Stage.Note op h) = keepsWithin op h
-stageWithin (Stage.Log op h) = keepsWithin op h
-stageWithin (Stage.Swap op h) = keepsWithin op h
-stageWithin (Stage.Cell op h) = keepsWithin op h
-stageWithin (Stage.Era op h) = keepsWithin op h
-
--- R4.6: what a rescuer opens is a release
-abbrev pub isRelease : Kind → Bool
-isRelease Kind.Lease = false
-isRelease Kind.Attach = false
-isRelease Kind.Release = true
-
--- R1.12, R4.6: a rescuer's opened operation is one, and a release
-abbrev pub releases : Stage → Bool
-releases Stage.Idle = false
-releases (Stage.Load op) = isRelease (op .kind)
-releases (Stage.Note op h) = isRelease (op .kind)
-releases (Stage.Log op h) = isRelease (op .kind)
-releases (Stage.Swap op h) = isRelease (op .kind)
-releases (Stage.Cell op h) = isRelease (op .kind)
-releases (Stage.Era op h) = isRelease (op .kind)
+stageWithin stage = openWithin (openIn stage) && keptWithin (keptIn stage)
 
 -- R1.12: a step of the rescuer of client c; in condition 2 it stands at a client that there is, and not at c
-unfoldable pub rescueWithin : ℕ → RescueStep → Bool
-rescueWithin c RescueStep.ReadLog = true
-rescueWithin c (RescueStep.Condition1 e) = entryWithin e
-rescueWithin c (RescueStep.Condition2 e j) = entryWithin e && (ltb (j .0) clients && not (eqb (j .0) c))
-rescueWithin c (RescueStep.Cell e) = entryWithin e
-rescueWithin c RescueStep.Era = true
-rescueWithin c RescueStep.Search = true
-rescueWithin c (RescueStep.Release r) = releases (r .stage) && stageWithin (r .stage)
+unfoldable pub rescueWithin : ℕ → RescuerStep → Bool
+rescueWithin c RescuerStep.ReadLog = true
+rescueWithin c (RescuerStep.Condition1 e) = entryWithin e
+rescueWithin c (RescuerStep.Condition2 e j) = entryWithin e && (ltb (j .0) clients && not (eqb (j .0) c))
+rescueWithin c (RescuerStep.Cell e) = entryWithin e
+rescueWithin c RescuerStep.Era = true
+rescueWithin c RescuerStep.Search = true
+rescueWithin c (RescuerStep.Release r) = releases (r .stage) && stageWithin (r .stage)
 
 -- R1.12: the block, the matrix and the two records of client c that a call is given
 unfoldable pub within : ℕ → Block → List (List ℕ) → ClientRecord → RescuerRecord → Bool

@@ -1,15 +1,18 @@
 // One call of a block: any call, with any numbers, on any words. `checked_call` answers 11 first where the words are
 // beyond their limits; `plain_call` is the same call for words that are known to be within them.
 use block::Block;
-use block::LogWord;
-use block::StandingWord;
+use block::matrix::Matrix;
+use block::matrix::own_era;
+use block::standing_at;
+use calls::Act;
 use calls::Call;
 use calls::Outcome;
 use calls::Records;
-use calls::client_of;
 use calls::refused;
-use limits::within;
+use limit_check::within;
 use lookup_call::look_up;
+use numbers::Client;
+use numbers::ClientCheck;
 use numbers::answers::Answer;
 use opening_calls::attach;
 use opening_calls::lease;
@@ -22,53 +25,65 @@ use standing_calls::take_over;
 use step_calls::rescue_step;
 use step_calls::step;
 ghost use mathlib.Core.Path.{_≡_};
-ghost use Rattle.calls.specs.Calls.{lent, plainCall, checkedCall};
+ghost use Rattle.calls.specs.Calls.{asks, effect, plainCall, checkedCall};
+ghost use Rattle.calls.specs.Checks.{afterChecks};
 
-// A call of words that are known to be within their limits. It is lent the headers, the cells and the matrix.
-pub fn plain_call<'a>(
-    call: Call,
-    headers: &'a [u64],
-    cells: &'a [u8],
-    logs: [LogWord; 8],
-    standings: [StandingWord; 8],
-    eras: &'a [[u32; 8]],
-    records: Records,
-) -> Outcome
-    ensures { λ r. ⌜ r ≡ plainCall call (lent (now (headers .entry)) (now (cells .entry)) logs standings) (now (eras .entry)) records ⌝ }
+// What is asked of a client that there is.
+fn acted(me: Client, act: Act, block: Block, eras: Matrix, records: Records) -> Outcome
+    ensures { λ r. ⌜ r ≡ afterChecks (asks act (me .0) block eras records) records (effect act (me .0) block eras records) ⌝ }
 {
-    match call {
-        Call::Join(c) => join(c, standings, records),
-        Call::Leave(c) => leave(c, standings, cells, records),
-        Call::Lease(c, cell, slot) => lease(c, cell, slot, standings, cells, eras, records),
-        Call::Attach(c, cell, slot) => attach(c, cell, slot, standings, cells, eras, records),
-        Call::Release(c, cell) => release(c, cell, standings, cells, records),
-        Call::Step(c) => step(c, standings, headers, eras, records),
-        Call::Fail(c) => fail(c, standings, records),
-        Call::TakeOver(c) => take_over(c, standings, records),
-        Call::RescueStep(c) => rescue_step(c, standings, headers, cells, logs, eras, records),
-        Call::RescuerFails(c) => rescuer_fails(c, standings, records),
-        Call::LookUp(c, cell) => look_up(c, cell, standings, cells, records),
+    let standings = block.standings;
+    let found = standing_at(standings, me);
+    match act {
+        Act::Join => join(me, found, records),
+        Act::Leave => leave(me, found, &block.cells, records),
+        Act::Lease(cell, slot) => lease(
+            me,
+            cell,
+            slot,
+            found,
+            &block.cells,
+            own_era(&eras, me),
+            records,
+        ),
+        Act::Attach(cell, slot) => attach(
+            me,
+            cell,
+            slot,
+            found,
+            &block.cells,
+            own_era(&eras, me),
+            records,
+        ),
+        Act::Release(cell) => release(me, cell, found, &block.cells, records),
+        Act::Step => step(me, found, block, eras, records),
+        Act::Fail => fail(me, found, records),
+        Act::TakeOver => take_over(me, found, records),
+        Act::RescueStep => rescue_step(me, found, block, eras, records),
+        Act::RescuerFails => rescuer_fails(me, found, records),
+        Act::LookUp(cell) => look_up(me, cell, found, &block.cells, records),
     }
 }
 
+// A call of words that are known to be within their limits: check 1, and then what is asked of the client.
+pub fn plain_call(call: Call, block: Block, eras: Matrix, records: Records) -> Outcome
+    ensures { λ r. ⌜ r ≡ plainCall call block eras records ⌝ }
+{
+    let ClientCheck::Known(me) = Client::checked(call.client) else {
+        return refused(Answer::NoSuchClient, records);
+    };
+    let act = call.act;
+    acted(me, act, block, eras, records)
+}
+
 // A call of any block, any matrix and any records: 11 where they are beyond their limits, before every other check.
-pub fn checked_call(call: Call, block: Block, eras: [[u32; 8]; 8], records: Records) -> Outcome
+pub fn checked_call(call: Call, block: Block, eras: Matrix, records: Records) -> Outcome
     ensures { λ r. ⌜ r ≡ checkedCall call block eras records ⌝ }
 {
     let client = records.client;
     let rescuer = records.rescuer;
-    if within(client_of(call), block, eras, client, rescuer) {
-        let logs = block.logs;
-        let standings = block.standings;
-        plain_call(
-            call,
-            &block.headers,
-            &block.cells,
-            logs,
-            standings,
-            &eras,
-            records,
-        )
+    if within(call.client, block, eras, client, rescuer) {
+        plain_call(call, block, eras, records)
     } else {
         refused(Answer::BeyondLimits, records)
     }

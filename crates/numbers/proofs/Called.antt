@@ -4,8 +4,8 @@ use mathlib.Core.Path.{_≡_, sym, _∙_}
 use borrow.Author.Tests.{not-true, not-false}
 
 module _ {r t : Bool} (ensures : r ≡ t) where
-  pub held : not r ≡ false → t ≡ true
-  held h = sym ensures ∙ not-false r h
+  pub was-true : not r ≡ false → t ≡ true
+  was-true h = sym ensures ∙ not-false r h
 
-  pub lost : not r ≡ true → t ≡ false
-  lost h = sym ensures ∙ not-true r h
+  pub was-false : not r ≡ true → t ≡ false
+  was-false h = sym ensures ∙ not-true r h

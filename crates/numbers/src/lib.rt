@@ -6,6 +6,21 @@ pub mod answers;
 ghost use mathlib.Core.Path.{_≡_};
 ghost use Rattle.numbers.specs.Sizes.{checkedClient, checkedSlot, checkedCell, raised};
 
+// How many there are of each thing; each is numbered from 0.
+pub const CLIENTS: usize = 8;
+
+pub const SLOTS: usize = 64;
+
+pub const CELLS: usize = 16;
+
+// No lease and no attach opens at this own era or above.
+pub const ERA_STOP: u32 = 4294967200;
+
+// No era of a history is above this, and no count above that.
+pub const ERA_LIMIT: u32 = 4294967216;
+
+pub const COUNT_LIMIT: u32 = 128;
+
 // A client's era, 32 bits.
 pub struct Era(pub u32);
 
@@ -38,7 +53,7 @@ impl Client {
     pub fn checked(number: u64) -> ClientCheck
         ensures { λ r. ⌜ r ≡ checkedClient number ⌝ }
     {
-        if number < 8 {
+        if number < CLIENTS as u64 {
             ClientCheck::Known(Client(number as u8))
         } else {
             ClientCheck::TooLarge
@@ -51,7 +66,7 @@ impl Slot {
     pub fn checked(number: u64) -> SlotCheck
         ensures { λ r. ⌜ r ≡ checkedSlot number ⌝ }
     {
-        if number < 64 {
+        if number < SLOTS as u64 {
             SlotCheck::Known(Slot(number as u8))
         } else {
             SlotCheck::TooLarge
@@ -63,7 +78,7 @@ impl Slot {
 pub fn checked_cell(number: u64) -> CellCheck
     ensures { λ r. ⌜ r ≡ checkedCell number ⌝ }
 {
-    if number < 16 {
+    if number < CELLS as u64 {
         CellCheck::Known(number as u8)
     } else {
         CellCheck::TooLarge

@@ -1,2 +1,3 @@
--- `Lowest` has the laws of the search for the lowest full cell.
+-- `Lowest` has the laws of the search for the lowest full cell, `Answers` what a rescue step answers.
 pub mod Lowest
+pub mod Answers

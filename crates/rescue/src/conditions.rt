@@ -1,11 +1,12 @@
 // The two conditions that tell a rescuer whether the logged swap was won: condition 1 first, for another host may note
 // and swap between the two.
-use crate::RescueStep;
 use crate::Rescued;
+use crate::RescuerStep;
 use crate::went;
 use block::Entry;
 use block::store::Store;
 use header::unpack;
+use numbers::CLIENTS;
 use numbers::Client;
 use numbers::Era;
 use numbers::answers::Answer;
@@ -26,22 +27,22 @@ fn swap_stands(c: Client, own: Era, header: u64) -> bool
 }
 
 // 2. Condition 1: the logged slot's header is the client's own, at its own era.
-pub(crate) fn first(c: Client, entry: Entry, own: Era, header: u64) -> Rescued
+pub fn first(c: Client, entry: Entry, own: Era, header: u64) -> Rescued
     ensures { λ r. ⌜ r ≡ firstCondition c entry own header ⌝ }
 {
     if swap_stands(c, own, header) {
-        went(Answer::Accepted, RescueStep::Cell(entry), Store::Nothing)
+        went(Answer::Accepted, RescuerStep::Cell(entry), Store::Nothing)
     } else {
         went(Answer::Accepted, onward(c, entry, 0), Store::Nothing)
     }
 }
 
 // 3. Condition 2, at client `j`: its row has seen the client's own era.
-pub(crate) fn second(c: Client, entry: Entry, j: Client, own: Era, seen: Era) -> Rescued
+pub fn second(c: Client, entry: Entry, j: Client, own: Era, seen: Era) -> Rescued
     ensures { λ r. ⌜ r ≡ secondCondition c entry j own seen ⌝ }
 {
     if own.0 <= seen.0 {
-        went(Answer::Accepted, RescueStep::Cell(entry), Store::Nothing)
+        went(Answer::Accepted, RescuerStep::Cell(entry), Store::Nothing)
     } else {
         went(
             Answer::Accepted,
@@ -52,7 +53,7 @@ pub(crate) fn second(c: Client, entry: Entry, j: Client, own: Era, seen: Era) ->
 }
 
 // Condition 2 at client `j` or later; the client itself is passed over.
-fn onward(c: Client, entry: Entry, j: u32) -> RescueStep
+fn onward(c: Client, entry: Entry, j: u32) -> RescuerStep
     requires { ⌜ j < 4294967295 ⌝ }
     ensures { λ r. ⌜ r ≡ onward c entry j ⌝ }
 {
@@ -64,12 +65,12 @@ fn onward(c: Client, entry: Entry, j: u32) -> RescueStep
 }
 
 // Condition 2 at client `j`; after the last one, the search.
-fn from_row(entry: Entry, j: u32) -> RescueStep
+fn from_row(entry: Entry, j: u32) -> RescuerStep
     ensures { λ r. ⌜ r ≡ fromRow entry j ⌝ }
 {
-    if j < 8 {
-        RescueStep::Condition2(entry, Client(j as u8))
+    if j < CLIENTS as u32 {
+        RescuerStep::Condition2(entry, Client(j as u8))
     } else {
-        RescueStep::Search
+        RescuerStep::Search
     }
 }

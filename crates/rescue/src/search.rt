@@ -1,6 +1,7 @@
 // The search for the lowest cell of a client that holds a slot. It reads the cells where they lie.
 use block::Cell;
 use block::cell_at;
+use numbers::CELLS;
 use numbers::Client;
 use numbers::Slot;
 ghost use mathlib.Core.Path.{_≡_};
@@ -18,7 +19,7 @@ pub fn lowest_full(cells: &[u8], c: Client) -> Found
 {
     let mut k: u8 = 0;
     loop {
-        if 16 <= k {
+        if CELLS <= k as usize {
             break Found::Nothing;
         }
         let held = cell_at(cells, c, k);

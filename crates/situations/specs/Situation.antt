@@ -6,7 +6,7 @@ use mathlib.Core.List.{List, [], _∷_, _++_, map}
 use lib.Dec.{eqb}
 use lib.ListN.{replicate}
 use Rattle.numbers.specs.Answers.{numberOf}
-use Rattle.header.specs.Header.{countIn}
+use Rattle.header.specs.Header.{packed, countIn}
 use Rattle.block.specs.declared.Kind.{Kind}
 use Rattle.block.specs.declared.Log.{Log}
 use Rattle.block.specs.declared.LogWord.{LogWord}
@@ -17,6 +17,7 @@ use Rattle.block.specs.Block.{headerAt, cellAt, standingAt}
 use Rattle.block.specs.Matrix.{seenEra, ownEra}
 use Rattle.block.specs.Store.{byteOf}
 use Rattle.calls.specs.declared.Call.{Call}
+use Rattle.calls.specs.Named.{lease, attach, release, step, takeOver, rescueStep}
 use Rattle.calls.specs.Checks.{standingCode, sameStanding, isEmpty}
 use Rattle.world.specs.World.{World, fresh, outcome, answer, after, run}
 
@@ -24,8 +25,10 @@ use Rattle.world.specs.World.{World, fresh, outcome, answer, after, run}
 pub data Fact : Type 0 where
   -- slot s has the count n
   countIs : (s n : ℕ) → Fact
-  -- slot s has the header w
-  headerIs : (s w : ℕ) → Fact
+  -- the header of slot s has this era, count and client
+  headerIs : (s era count client : ℕ) → Fact
+  -- the header of slot s is the word w
+  wordIs : (s w : ℕ) → Fact
   -- the own era of client c is e
   ownEraIs : (c e : ℕ) → Fact
   -- the matrix entry at (i, j) is e
@@ -104,7 +107,10 @@ writesCell (Store.Standing at standing) c k s = false
 -- whether a fact is so in a world
 unfoldable pub isSo : World → Fact → Bool
 isSo w (countIs s n) = eqb (countIn (headerAt (w .block .headers) s)) n
-isSo w (headerIs s h) = eqb (headerAt (w .block .headers) s) h
+isSo w (headerIs s era count client) =
+    eqb (headerAt (w .block .headers) s)
+    (packed (record { era = record { 0 = era }; count = count; client = record { 0 = client } }))
+isSo w (wordIs s h) = eqb (headerAt (w .block .headers) s) h
 isSo w (ownEraIs c e) = eqb (ownEra (w .eras) c .0) e
 isSo w (entryIs i j e) = eqb (seenEra (w .eras) i j .0) e
 isSo w (cellHolds c k s) = eqb (byteOf (cellAt (w .block .cells) c k)) s
@@ -147,30 +153,30 @@ accepted call = answered call 0
 
 -- n steps of client c, with more to follow
 abbrev pub steps : ℕ → ℕ → List Item
-steps c n = replicate n (gets (Call.Step c) 0)
+steps c n = replicate n (gets (step c) 0)
 
 -- R3.1 to R3.6: the six steps of an operation that wins its swap at once; the sixth finishes it
 abbrev pub sixSteps : ℕ → List Item
-sixSteps c = steps c 5 ++ answered (Call.Step c) 100
+sixSteps c = steps c 5 ++ answered (step c) 100
 
 -- a whole lease, attach or release
 abbrev pub wholeLease : ℕ → ℕ → ℕ → List Item
-wholeLease c k s = accepted (Call.Lease c k s) ++ sixSteps c
+wholeLease c k s = accepted (lease c k s) ++ sixSteps c
 
 abbrev pub wholeAttach : ℕ → ℕ → ℕ → List Item
-wholeAttach c k s = accepted (Call.Attach c k s) ++ sixSteps c
+wholeAttach c k s = accepted (attach c k s) ++ sixSteps c
 
 abbrev pub wholeRelease : ℕ → ℕ → List Item
-wholeRelease c k = accepted (Call.Release c k) ++ sixSteps c
+wholeRelease c k = accepted (release c k) ++ sixSteps c
 
 -- n rescue steps of client c, with more to follow
 abbrev pub rescueSteps : ℕ → ℕ → List Item
-rescueSteps c n = replicate n (gets (Call.RescueStep c) 0)
+rescueSteps c n = replicate n (gets (rescueStep c) 0)
 
 -- n rescue steps of client c, the last of which finishes the rescue
 abbrev pub lastRescueSteps : ℕ → ℕ → List Item
-lastRescueSteps c n = rescueSteps c (n - 1) ++ answered (Call.RescueStep c) 100
+lastRescueSteps c n = rescueSteps c (n - 1) ++ answered (rescueStep c) 100
 
 -- a take over of client c and its rescue, which has n steps
 abbrev pub rescue : ℕ → ℕ → List Item
-rescue c n = accepted (Call.TakeOver c) ++ lastRescueSteps c n
+rescue c n = accepted (takeOver c) ++ lastRescueSteps c n

@@ -1,6 +1,6 @@
 -- The situations A to J of the rules (part 6) and two of our own, K and L, as one table. Over each stand what happens,
--- in a sentence, and how its numbers follow from the rules. A header is written {era, count, client}; its word (R1.4)
--- is era + count * 2^32 + client * 2^48, where 2^32 is 4294967296 and 2^48 is 281474976710656.
+-- in a sentence, and how its numbers follow from the rules. A header is written {era, count, client}, and its word is
+-- named where the rules name it (situation A).
 use Prim.Native.Nat.{ℕ}
 use mathlib.Core.Bool.{true}
 use mathlib.Core.List.{List, [], _∷_, _++_}
@@ -9,14 +9,15 @@ use Rattle.block.specs.declared.Standing.{Standing}
 use Rattle.block.specs.Store.{withEra}
 use Rattle.limits.specs.Every.{every}
 use Rattle.calls.specs.declared.Call.{Call}
+use Rattle.calls.specs.Named.{join, leave, lease, attach, release, step, fail, takeOver, rescueStep, rescuerFails, lookUp}
 use Rattle.world.specs.World.{World, fresh}
 use Rattle.situations.specs.Situation.{Item, Situation, file, endOf, holds, found, answered, accepted, steps, sixSteps, wholeLease, wholeAttach, wholeRelease, rescueSteps, lastRescueSteps, rescue}
-use Rattle.situations.specs.Situation.Fact.{countIs, headerIs, ownEraIs, entryIs, cellHolds, cellEmpty, standingIs, wouldWrite, wordsOf}
+use Rattle.situations.specs.Situation.Fact.{countIs, headerIs, wordIs, ownEraIs, entryIs, cellHolds, cellEmpty, standingIs, wouldWrite, wordsOf}
 
 -- client c joins and opens a lease of slot 5 into cell 2, and fails after n steps
 abbrev pub failsInLease : ℕ → ℕ → List Item
 failsInLease c n =
-    accepted (Call.Join c) ++ accepted (Call.Lease c 2 5) ++ steps c n ++ accepted (Call.Fail c)
+    accepted (join c) ++ accepted (lease c 2 5) ++ steps c n ++ accepted (fail c)
 
 -- A. The worked example: client 0 leases slot 5 into cell 2 and looks up that cell and the next (R6.A).
 -- Its one swap is won at own era 1: {1, 1, 0}, which is 1 + 4294967296; the sixth step makes the own era 2. Cell 2
@@ -24,11 +25,11 @@ failsInLease c n =
 abbrev pub a-worked-example : Situation
 a-worked-example =
     file
-    (accepted (Call.Join 0)
+    (accepted (join 0)
     ++ wholeLease 0 2 5
-    ++ answered (Call.LookUp 0 2) 205
-    ++ answered (Call.LookUp 0 3) 199
-    ++ found (headerIs 5 4294967297 ∷ countIs 5 1 ∷ ownEraIs 0 2 ∷ []))
+    ++ answered (lookUp 0 2) 205
+    ++ answered (lookUp 0 3) 199
+    ++ found (wordIs 5 4294967297 ∷ headerIs 5 1 1 0 ∷ countIs 5 1 ∷ ownEraIs 0 2 ∷ []))
 
 -- B. Client 0 fails with its lease logged and not swapped; the rescue undoes nothing, for nothing was done (R6.B).
 -- The log is read (1), the untouched header has era 0, not 1 (2), the seven entries (1, 0) to (7, 0) are 0 (3 to 9),
@@ -38,7 +39,7 @@ b-lease-lost-before-swap =
     file
     (failsInLease 0 3
     ++ rescue 0 10
-    ++ found (headerIs 5 0 ∷ countIs 5 0 ∷ ownEraIs 0 1 ∷ cellEmpty 0 2 ∷ standingIs 0 Standing.Absent ∷ []))
+    ++ found (headerIs 5 0 0 0 ∷ countIs 5 0 ∷ ownEraIs 0 1 ∷ cellEmpty 0 2 ∷ standingIs 0 Standing.Absent ∷ []))
 
 -- C. Client 0 fails right after its swap; the rescue completes the lease and then releases it (R6.C).
 -- The log is read (1), the header {1, 1, 0} has client 0 and era 1 (2), cell 2 is written (3), the own era becomes 2
@@ -49,63 +50,63 @@ c-lease-lost-after-swap =
     file
     (failsInLease 0 4
     ++ rescue 0 12
-    ++ found (headerIs 5 2 ∷ countIs 5 0 ∷ ownEraIs 0 3 ∷ cellEmpty 0 2 ∷ standingIs 0 Standing.Absent ∷ []))
+    ++ found (headerIs 5 2 0 0 ∷ countIs 5 0 ∷ ownEraIs 0 3 ∷ cellEmpty 0 2 ∷ standingIs 0 Standing.Absent ∷ []))
 
 -- D. As in C, but client 1 attaches to slot 5 before the take over: its swap hides the other, its note shows it (R6.D).
--- Client 1 notes era 1 of client 0 and swaps {1, 2, 1}, 1 + 2 * 4294967296 + 281474976710656. The log is read (1),
--- condition 1 says no (2), condition 2 says yes at its first entry, (1, 0) (3), and C's last ten steps follow (4 to
--- 13): 13 steps. The release swaps {2, 1, 0}. The own era of client 0 went up twice, that of client 1 once.
+-- Client 1 notes era 1 of client 0 and swaps {1, 2, 1}. The log is read (1), condition 1 says no (2), condition 2 says
+-- yes at its first entry, (1, 0) (3), and C's last ten steps follow (4 to 13): 13 steps. The release swaps {2, 1, 0}.
+-- The own era of client 0 went up twice, that of client 1 once.
 abbrev pub d-swap-seen-by-another : Situation
 d-swap-seen-by-another =
     file
     (failsInLease 0 4
-    ++ accepted (Call.Join 1)
+    ++ accepted (join 1)
     ++ wholeAttach 1 3 5
-    ++ found (headerIs 5 281483566645249 ∷ entryIs 1 0 1 ∷ [])
+    ++ found (headerIs 5 1 2 1 ∷ entryIs 1 0 1 ∷ [])
     ++ rescue 0 13
-    ++ answered (Call.LookUp 1 3) 205
-    ++ found (headerIs 5 4294967298 ∷ countIs 5 1 ∷ ownEraIs 0 3 ∷ ownEraIs 1 2 ∷ standingIs 0 Standing.Absent ∷ []))
+    ++ answered (lookUp 1 3) 205
+    ++ found (headerIs 5 2 1 0 ∷ countIs 5 1 ∷ ownEraIs 0 3 ∷ ownEraIs 1 2 ∷ standingIs 0 Standing.Absent ∷ []))
 
 -- E. Clients 0 and 1 load slot 5, which client 2 holds, for an attach each; the swap that comes second is lost (R6.E).
--- Both keep {1, 1, 2}. Client 0 swaps {1, 2, 0}, 1 + 2 * 4294967296; client 1 finds it in place of the kept word: 101,
--- and the header stays. From its load on client 1 then swaps {1, 3, 1}, 1 + 3 * 4294967296 + 281474976710656.
+-- Both keep {1, 1, 2}. Client 0 swaps {1, 2, 0}; client 1 finds it in place of the kept word: 101, and the header
+-- stays. From its load on client 1 then swaps {1, 3, 1}.
 abbrev pub e-swap-lost-to-another : Situation
 e-swap-lost-to-another =
     file
-    (accepted (Call.Join 2)
+    (accepted (join 2)
     ++ wholeLease 2 4 5
-    ++ accepted (Call.Join 0)
-    ++ accepted (Call.Join 1)
-    ++ accepted (Call.Attach 0 2 5)
-    ++ accepted (Call.Attach 1 3 5)
+    ++ accepted (join 0)
+    ++ accepted (join 1)
+    ++ accepted (attach 0 2 5)
+    ++ accepted (attach 1 3 5)
     ++ steps 0 1
     ++ steps 1 1
     ++ steps 0 3
     ++ steps 1 2
-    ++ answered (Call.Step 1) 101
-    ++ found (headerIs 5 8589934593 ∷ countIs 5 2 ∷ [])
+    ++ answered (step 1) 101
+    ++ found (headerIs 5 1 2 0 ∷ countIs 5 2 ∷ [])
     ++ steps 0 1
-    ++ answered (Call.Step 0) 100
+    ++ answered (step 0) 100
     ++ sixSteps 1
-    ++ found (headerIs 5 281487861612545 ∷ countIs 5 3 ∷ ownEraIs 0 2 ∷ ownEraIs 1 2 ∷ ownEraIs 2 2 ∷ []))
+    ++ found (headerIs 5 1 3 1 ∷ countIs 5 3 ∷ ownEraIs 0 2 ∷ ownEraIs 1 2 ∷ ownEraIs 2 2 ∷ []))
 
 -- a world given to F: client 0 runs and holds slot 5 in cell 2, and its own era is e
 abbrev pub withOwnEra : ℕ → World
 withOwnEra e =
-    let w = endOf (file (accepted (Call.Join 0) ++ wholeLease 0 2 5)) in
+    let w = endOf (file (accepted (join 0) ++ wholeLease 0 2 5)) in
     record { block = w .block; eras = withEra (w .eras) 0 0 (record { 0 = e }); records = w .records }
 
 -- F. With an own era one below the era stop, client 0 can still lease (R6.F).
--- The lease of slot 6 swaps {4294967199, 1, 0}, 4294967199 + 4294967296, and raises the own era to 4294967200, which
--- is the era stop: the next lease gets 9.
+-- The lease of slot 6 swaps {4294967199, 1, 0}, and raises the own era to 4294967200, which is the era stop: the next
+-- lease gets 9.
 abbrev pub f-below-era-stop : Situation
 f-below-era-stop =
     record {
       start = withOwnEra 4294967199;
       items =
           wholeLease 0 3 6
-          ++ found (headerIs 6 8589934495 ∷ countIs 6 1 ∷ ownEraIs 0 4294967200 ∷ [])
-          ++ answered (Call.Lease 0 4 7) 9;
+          ++ found (headerIs 6 4294967199 1 0 ∷ countIs 6 1 ∷ ownEraIs 0 4294967200 ∷ [])
+          ++ answered (lease 0 4 7) 9;
     }
 
 -- F. With an own era at the era stop, client 0 can neither lease nor attach, but it can let go (R6.F).
@@ -116,10 +117,10 @@ f-at-era-stop =
     record {
       start = withOwnEra 4294967200;
       items =
-          answered (Call.Lease 0 3 6) 9
-          ++ answered (Call.Attach 0 3 5) 9
+          answered (lease 0 3 6) 9
+          ++ answered (attach 0 3 5) 9
           ++ wholeRelease 0 2
-          ++ found (headerIs 5 4294967200 ∷ countIs 5 0 ∷ ownEraIs 0 4294967201 ∷ cellEmpty 0 2 ∷ []);
+          ++ found (headerIs 5 4294967200 0 0 ∷ countIs 5 0 ∷ ownEraIs 0 4294967201 ∷ cellEmpty 0 2 ∷ []);
     }
 
 -- G. Of several numbers that are too large the first in the order of the checks answers, ahead of the standing (R6.G).
@@ -128,24 +129,24 @@ f-at-era-stop =
 abbrev pub g-numbers-too-large : Situation
 g-numbers-too-large =
     file
-    (answered (Call.Join 8) 1
-    ++ answered (Call.Leave 8) 1
-    ++ answered (Call.Lease 8 16 64) 1
-    ++ answered (Call.Attach 8 16 64) 1
-    ++ answered (Call.Release 8 16) 1
-    ++ answered (Call.Step 8) 1
-    ++ answered (Call.Fail 8) 1
-    ++ answered (Call.TakeOver 8) 1
-    ++ answered (Call.RescueStep 8) 1
-    ++ answered (Call.RescuerFails 8) 1
-    ++ answered (Call.LookUp 8 16) 1
-    ++ answered (Call.Lease 0 16 64) 2
-    ++ answered (Call.Attach 0 16 64) 2
-    ++ answered (Call.Release 0 16) 2
-    ++ answered (Call.LookUp 0 16) 2
-    ++ answered (Call.Lease 0 15 64) 3
-    ++ answered (Call.Attach 0 15 64) 3
-    ++ answered (Call.Lease 0 15 63) 4
+    (answered (join 8) 1
+    ++ answered (leave 8) 1
+    ++ answered (lease 8 16 64) 1
+    ++ answered (attach 8 16 64) 1
+    ++ answered (release 8 16) 1
+    ++ answered (step 8) 1
+    ++ answered (fail 8) 1
+    ++ answered (takeOver 8) 1
+    ++ answered (rescueStep 8) 1
+    ++ answered (rescuerFails 8) 1
+    ++ answered (lookUp 8 16) 1
+    ++ answered (lease 0 16 64) 2
+    ++ answered (attach 0 16 64) 2
+    ++ answered (release 0 16) 2
+    ++ answered (lookUp 0 16) 2
+    ++ answered (lease 0 15 64) 3
+    ++ answered (attach 0 15 64) 3
+    ++ answered (lease 0 15 63) 4
     ++ found (wordsOf fresh ∷ []))
 
 -- H. Client 1 opens a lease of a held slot and an attach to a free one; each ends at its load (R6.H).
@@ -154,37 +155,37 @@ g-numbers-too-large =
 abbrev pub h-slot-held-slot-free : Situation
 h-slot-held-slot-free =
     file
-    (accepted (Call.Join 0)
+    (accepted (join 0)
     ++ wholeLease 0 2 5
-    ++ accepted (Call.Join 1)
-    ++ accepted (Call.Lease 1 3 5)
-    ++ answered (Call.Step 1) 7
-    ++ accepted (Call.Attach 1 3 6)
-    ++ answered (Call.Step 1) 8
-    ++ answered (Call.Step 1) 5
-    ++ found (headerIs 5 4294967297 ∷ headerIs 6 0 ∷ countIs 5 1 ∷ countIs 6 0 ∷ ownEraIs 1 1 ∷ []))
+    ++ accepted (join 1)
+    ++ accepted (lease 1 3 5)
+    ++ answered (step 1) 7
+    ++ accepted (attach 1 3 6)
+    ++ answered (step 1) 8
+    ++ answered (step 1) 5
+    ++ found (headerIs 5 1 1 0 ∷ headerIs 6 0 0 0 ∷ countIs 5 1 ∷ countIs 6 0 ∷ ownEraIs 1 1 ∷ []))
 
 -- I. Client 0's release is past its swap when slot 5 goes to client 2; its cell names it and shows nothing (R6.I).
 -- The swaps: lease {1, 1, 0}, attach {1, 2, 1}, release of client 0 {2, 1, 0}, release of client 1 {2, 0, 1}, lease of
--- client 2 {1, 1, 2}, 1 + 4294967296 + 2 * 281474976710656. Cell 2 of client 0 is written only at the fifth stage, so
--- it holds 5, but it is being released: 199. Client 2's look up shows 205.
+-- client 2 {1, 1, 2}. Cell 2 of client 0 is written only at the fifth stage, so it holds 5, but it is being released:
+-- 199. Client 2's look up shows 205.
 abbrev pub i-look-up-while-releasing : Situation
 i-look-up-while-releasing =
     file
-    (accepted (Call.Join 0)
+    (accepted (join 0)
     ++ wholeLease 0 2 5
-    ++ accepted (Call.Join 1)
+    ++ accepted (join 1)
     ++ wholeAttach 1 3 5
-    ++ accepted (Call.Release 0 2)
+    ++ accepted (release 0 2)
     ++ steps 0 4
     ++ wholeRelease 1 3
     ++ found (countIs 5 0 ∷ [])
-    ++ accepted (Call.Join 2)
+    ++ accepted (join 2)
     ++ wholeLease 2 4 5
     ++ found (cellHolds 0 2 5 ∷ [])
-    ++ answered (Call.LookUp 0 2) 199
-    ++ answered (Call.LookUp 2 4) 205
-    ++ found (headerIs 5 562954248388609 ∷ countIs 5 1 ∷ ownEraIs 0 2 ∷ ownEraIs 1 3 ∷ ownEraIs 2 2 ∷ []))
+    ++ answered (lookUp 0 2) 199
+    ++ answered (lookUp 2 4) 205
+    ++ found (headerIs 5 1 1 2 ∷ countIs 5 1 ∷ ownEraIs 0 2 ∷ ownEraIs 1 3 ∷ ownEraIs 2 2 ∷ []))
 
 -- J. As in C, but the first rescuer fails after its cell step; the second does all of it again and ends alike (R6.J).
 -- The third step of either writes slot 5 into cell 2 of client 0. The first leaves the own era at 1 and the header at
@@ -193,67 +194,65 @@ abbrev pub j-rescuer-fails : Situation
 j-rescuer-fails =
     file
     (failsInLease 0 4
-    ++ accepted (Call.TakeOver 0)
+    ++ accepted (takeOver 0)
     ++ rescueSteps 0 2
-    ++ found (wouldWrite (Call.RescueStep 0) 0 2 5 ∷ [])
+    ++ found (wouldWrite (rescueStep 0) 0 2 5 ∷ [])
     ++ rescueSteps 0 1
     ++ found (cellHolds 0 2 5 ∷ ownEraIs 0 1 ∷ [])
-    ++ accepted (Call.RescuerFails 0)
+    ++ accepted (rescuerFails 0)
     ++ found (standingIs 0 Standing.Failed ∷ [])
-    ++ accepted (Call.TakeOver 0)
+    ++ accepted (takeOver 0)
     ++ rescueSteps 0 2
-    ++ found (wouldWrite (Call.RescueStep 0) 0 2 5 ∷ [])
+    ++ found (wouldWrite (rescueStep 0) 0 2 5 ∷ [])
     ++ lastRescueSteps 0 10
     ++ found (countIs 5 0 ∷ ownEraIs 0 3 ∷ wordsOf (endOf c-lease-lost-after-swap) ∷ []))
 
 -- K. Between load and swap of client 0's attach slot 5 is released and leased anew: same count, another header (ours;
 -- R3.4, R7.4). A swap that compares counts is won here; client 2's swap then goes unnoted, so that its rescue says no
 -- eight times and leaves a count that nobody holds.
--- Client 0 keeps {1, 1, 1}, 1 + 4294967296 + 281474976710656. Client 1 releases, {2, 0, 1}, client 2 leases up to its
--- swap, {1, 1, 2}, 1 + 4294967296 + 2 * 281474976710656, and fails: same era, same count, other client, so client 0
--- gets 101. From its load on it notes era 1 of client 2 and swaps {1, 2, 0}, 1 + 2 * 4294967296. In the rescue of
--- client 2 the log is read (1), condition 1 says no (2), condition 2 says yes at (0, 2) (3), and C's last ten steps
--- follow (4 to 13): 13 steps. Its release swaps {2, 1, 2}: count 1, the entry of client 0.
+-- Client 0 keeps {1, 1, 1}. Client 1 releases, {2, 0, 1}, client 2 leases up to its swap, {1, 1, 2}, and fails: same
+-- era, same count, other client, so client 0 gets 101. From its load on it notes era 1 of client 2 and swaps {1, 2, 0}.
+-- In the rescue of client 2 the log is read (1), condition 1 says no (2), condition 2 says yes at (0, 2) (3), and C's
+-- last ten steps follow (4 to 13): 13 steps. Its release swaps {2, 1, 2}: count 1, the entry of client 0.
 abbrev pub k-same-count-other-header : Situation
 k-same-count-other-header =
     file
-    (accepted (Call.Join 1)
+    (accepted (join 1)
     ++ wholeLease 1 3 5
-    ++ found (headerIs 5 281479271677953 ∷ [])
-    ++ accepted (Call.Join 0)
-    ++ accepted (Call.Attach 0 2 5)
+    ++ found (headerIs 5 1 1 1 ∷ [])
+    ++ accepted (join 0)
+    ++ accepted (attach 0 2 5)
     ++ steps 0 1
     ++ wholeRelease 1 3
-    ++ accepted (Call.Join 2)
-    ++ accepted (Call.Lease 2 4 5)
+    ++ accepted (join 2)
+    ++ accepted (lease 2 4 5)
     ++ steps 2 4
-    ++ accepted (Call.Fail 2)
-    ++ found (headerIs 5 562954248388609 ∷ countIs 5 1 ∷ [])
+    ++ accepted (fail 2)
+    ++ found (headerIs 5 1 1 2 ∷ countIs 5 1 ∷ [])
     ++ steps 0 2
-    ++ answered (Call.Step 0) 101
-    ++ found (headerIs 5 562954248388609 ∷ entryIs 0 2 0 ∷ [])
+    ++ answered (step 0) 101
+    ++ found (headerIs 5 1 1 2 ∷ entryIs 0 2 0 ∷ [])
     ++ sixSteps 0
-    ++ found (headerIs 5 8589934593 ∷ countIs 5 2 ∷ entryIs 0 2 1 ∷ [])
+    ++ found (headerIs 5 1 2 0 ∷ countIs 5 2 ∷ entryIs 0 2 1 ∷ [])
     ++ rescue 2 13
-    ++ answered (Call.LookUp 0 2) 205
-    ++ found (headerIs 5 562954248388610 ∷ countIs 5 1 ∷ ownEraIs 0 2 ∷ ownEraIs 1 3 ∷ ownEraIs 2 3 ∷ []))
+    ++ answered (lookUp 0 2) 205
+    ++ found (headerIs 5 2 1 2 ∷ countIs 5 1 ∷ ownEraIs 0 2 ∷ ownEraIs 1 3 ∷ ownEraIs 2 3 ∷ []))
 
 -- L. Client 1 attaches over client 0's swap, lets go and leaves; only its row shows that client 0 had swapped (ours;
 -- R4.3, R7.3). Where leaving clears the row, condition 2 says no seven times and the count stays 1.
--- Client 1 notes era 1 of client 0, swaps {1, 2, 1} and, releasing, {2, 1, 1}, 2 + 4294967296 + 281474976710656. So
--- condition 1 says no and condition 2 yes at (1, 0), as in D: 13 steps. The rescue's release swaps {2, 0, 0}: count 0.
--- Both own eras went up twice.
+-- Client 1 notes era 1 of client 0, swaps {1, 2, 1} and, releasing, {2, 1, 1}. So condition 1 says no and condition 2
+-- yes at (1, 0), as in D: 13 steps. The rescue's release swaps {2, 0, 0}: count 0. Both own eras went up twice.
 abbrev pub l-row-of-client-that-left : Situation
 l-row-of-client-that-left =
     file
     (failsInLease 0 4
-    ++ accepted (Call.Join 1)
+    ++ accepted (join 1)
     ++ wholeAttach 1 3 5
     ++ wholeRelease 1 3
-    ++ accepted (Call.Leave 1)
-    ++ found (standingIs 1 Standing.Absent ∷ headerIs 5 281479271677954 ∷ entryIs 1 0 1 ∷ [])
+    ++ accepted (leave 1)
+    ++ found (standingIs 1 Standing.Absent ∷ headerIs 5 2 1 1 ∷ entryIs 1 0 1 ∷ [])
     ++ rescue 0 13
-    ++ found (headerIs 5 2 ∷ countIs 5 0 ∷ ownEraIs 0 3 ∷ ownEraIs 1 3 ∷ cellEmpty 0 2 ∷ []))
+    ++ found (headerIs 5 2 0 0 ∷ countIs 5 0 ∷ ownEraIs 0 3 ∷ ownEraIs 1 3 ∷ cellEmpty 0 2 ∷ []))
 
 -- L. The same where client 1 does not let go but fails and is rescued (ours; R4.3, R7.3). Where the end of a rescue
 -- clears the row, condition 2 of client 0's rescue says no seven times and the count stays 1.
@@ -264,13 +263,13 @@ abbrev pub l-row-of-client-rescued : Situation
 l-row-of-client-rescued =
     file
     (failsInLease 0 4
-    ++ accepted (Call.Join 1)
+    ++ accepted (join 1)
     ++ wholeAttach 1 3 5
-    ++ accepted (Call.Fail 1)
+    ++ accepted (fail 1)
     ++ rescue 1 17
-    ++ found (standingIs 1 Standing.Absent ∷ headerIs 5 281479271677954 ∷ entryIs 1 0 1 ∷ [])
+    ++ found (standingIs 1 Standing.Absent ∷ headerIs 5 2 1 1 ∷ entryIs 1 0 1 ∷ [])
     ++ rescue 0 13
-    ++ found (headerIs 5 2 ∷ countIs 5 0 ∷ ownEraIs 0 3 ∷ ownEraIs 1 3 ∷ cellEmpty 0 2 ∷ []))
+    ++ found (headerIs 5 2 0 0 ∷ countIs 5 0 ∷ ownEraIs 0 3 ∷ ownEraIs 1 3 ∷ cellEmpty 0 2 ∷ []))
 
 -- R6: the table
 unfoldable pub situations : List Situation

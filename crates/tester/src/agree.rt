@@ -1,5 +1,7 @@
 // Whether a world agrees with the ledger, part by part as demand 3 has it.
+use crate::acts::asked;
 use crate::scene::Scene;
+use calls::Act;
 use header::unpack;
 
 // How a world agrees: wholly, or where it first differs.
@@ -60,7 +62,7 @@ fn shows_line(at: usize, scene: Scene) -> bool {
     if 128 <= at {
         return true;
     }
-    let number = scene.look_up((at / 16) as u64, (at % 16) as u64);
+    let number = scene.answer(asked((at / 16) as u64, Act::LookUp((at % 16) as u64)));
     if number == 4 {
         return true;
     }

@@ -1,13 +1,16 @@
 // What a call performs, in numbers: 1 to 6 a stage of the client, 11 to 16 a step of the rescue, 21 to 26 a stage of
 // the release that the rescuer has opened, and 0 where nothing is under way.
+use crate::acts::RESCUE_STEP;
+use crate::acts::STEP;
+use crate::acts::record_of;
 use block::Entry;
 use block::Kind;
 use block::Operation;
 use calls::Call;
 use calls::Records;
 use numbers::Client;
-use rescue::RescueStep;
 use rescue::RescuerRecord;
+use rescue::RescuerStep;
 use stages::ClientRecord;
 use stages::Stage;
 
@@ -93,35 +96,13 @@ fn by_release(record: ClientRecord) -> Doing {
 pub(crate) fn by_rescuer(record: RescuerRecord) -> Doing {
     let step = record.step;
     match step {
-        RescueStep::ReadLog => bare(11),
-        RescueStep::Condition1(entry) => of_entry(12, entry),
-        RescueStep::Condition2(entry, j) => at_row(entry, j),
-        RescueStep::Cell(entry) => of_entry(14, entry),
-        RescueStep::Era => bare(15),
-        RescueStep::Search => bare(16),
-        RescueStep::Release(release) => by_release(release),
-    }
-}
-
-// Whether a call is one of the rescuer.
-pub(crate) fn is_rescue_step(call: Call) -> bool {
-    match call {
-        Call::RescueStep(_) => true,
-        Call::Join(_) | Call::Leave(_) | Call::Step(_) | Call::Fail(_) | Call::TakeOver(_) => false,
-        Call::RescuerFails(_) => false,
-        Call::Lease(_, _, _) | Call::Attach(_, _, _) => false,
-        Call::Release(_, _) | Call::LookUp(_, _) => false,
-    }
-}
-
-// Whether a call is a step of the client.
-fn is_step(call: Call) -> bool {
-    match call {
-        Call::Step(_) => true,
-        Call::Join(_) | Call::Leave(_) | Call::Fail(_) | Call::TakeOver(_) => false,
-        Call::RescueStep(_) | Call::RescuerFails(_) => false,
-        Call::Lease(_, _, _) | Call::Attach(_, _, _) => false,
-        Call::Release(_, _) | Call::LookUp(_, _) => false,
+        RescuerStep::ReadLog => bare(11),
+        RescuerStep::Condition1(entry) => of_entry(12, entry),
+        RescuerStep::Condition2(entry, j) => at_row(entry, j),
+        RescuerStep::Cell(entry) => of_entry(14, entry),
+        RescuerStep::Era => bare(15),
+        RescuerStep::Search => bare(16),
+        RescuerStep::Release(release) => by_release(release),
     }
 }
 
@@ -135,11 +116,12 @@ pub(crate) fn performed(call: Call, given: Records, answer: u64) -> Doing {
     if !was_performed(answer) {
         return bare(0);
     }
-    if is_rescue_step(call) {
+    let asked = record_of(call);
+    if asked.act == RESCUE_STEP {
         let rescuer = given.rescuer;
         return by_rescuer(rescuer);
     }
-    if is_step(call) {
+    if asked.act == STEP {
         let client = given.client;
         return by_client(client);
     }

@@ -1,13 +1,15 @@
 // The ledger that a run is held to, kept from the history alone: a won lease or attach swap enters a line, the won
 // release swap strikes it out. It reads no count and no cell. A line stands at 16 times its client plus its cell.
+use crate::acts::FAIL;
+use crate::acts::RELEASE;
+use crate::acts::record_of;
 use crate::doing::Doing;
 use crate::doing::by_client;
 use crate::doing::performed;
-use block::store::Store;
+use crate::words::is_header;
 use calls::Call;
 use calls::Outcome;
 use calls::Records;
-use calls::client_of;
 
 // Each line's slot, 255 where there is none; its phase, 0 swapped, 1 written, 2 its release is open; and for each
 // client that failed, the own era that the end of its rescue must leave.
@@ -35,18 +37,6 @@ fn line_at(client: u64, cell: u64) -> usize {
         return 128;
     }
     (client * 16 + cell) as usize
-}
-
-// Whether a store is that of a won swap.
-fn is_header(store: Store) -> bool {
-    match store {
-        Store::Header(_, _) => true,
-        Store::Nothing => false,
-        Store::Cell(_, _, _) => false,
-        Store::Log(_, _) => false,
-        Store::Era(_, _, _) => false,
-        Store::Standing(_, _) => false,
-    }
 }
 
 impl Ledger {
@@ -132,13 +122,14 @@ impl Ledger {
 
     // After an accepted call that is no step, of a client with own era `era`; `before` is what was under way.
     fn after_opening(self, call: Call, before: Doing, era: u64) -> Ledger {
-        match call {
-            Call::Release(client, cell) => self.turned(client, cell, 2),
-            Call::Fail(client) => self.failed(client, era, 5 <= before.step),
-            Call::Join(_) | Call::Leave(_) | Call::Step(_) | Call::TakeOver(_) => self,
-            Call::RescueStep(_) | Call::RescuerFails(_) => self,
-            Call::Lease(_, _, _) | Call::Attach(_, _, _) | Call::LookUp(_, _) => self,
+        let asked = record_of(call);
+        if asked.act == RELEASE {
+            return self.turned(asked.client, asked.cell, 2);
         }
+        if asked.act == FAIL {
+            return self.failed(asked.client, era, 5 <= before.step);
+        }
+        self
     }
 
     // After a call: of the records that it was given, its outcome and the own era before it.
@@ -147,7 +138,7 @@ impl Ledger {
         let number = answer.number();
         let doing = performed(call, given, number);
         if doing.step != 0 {
-            return self.after_step(client_of(call), doing, outcome);
+            return self.after_step(call.client, doing, outcome);
         }
         if number == 0 {
             let client = given.client;

@@ -1,6 +1,7 @@
 // The tester's program: `watch` tells what each call of a file does, `given` does the same from a block given with other
 // own eras, `sweep` plays every placement of a scenario, `trapped` does the same where own eras start at 0. Calls come
 // from standard input, numbers go to standard output.
+mod acts;
 mod agree;
 mod choices;
 mod doing;

@@ -1,7 +1,10 @@
 // Who comes next in a run of the sweep. The set-up is played, the victim opens its operation and is killed after any of
 // its steps; then its rescue runs to the end, and meanwhile the rescuer and its successor may be killed after any of
 // their steps, and another host may play its own operation, in so many parts as the placement allows.
+use crate::acts::asked;
+use crate::acts::asked_of_nobody;
 use crate::choices::Choices;
+use calls::Act;
 use calls::Call;
 use decode::Decoded;
 use decode::decode;
@@ -174,26 +177,26 @@ impl Progress {
                 if self.victim == 0 {
                     opening
                 } else {
-                    Call::Step(plan.victim)
+                    asked(plan.victim, Act::Step)
                 }
             }
-            Actor::Death => Call::Fail(plan.victim),
+            Actor::Death => asked(plan.victim, Act::Fail),
             Actor::Rescuer => {
                 if self.in_rescue {
-                    Call::RescueStep(plan.victim)
+                    asked(plan.victim, Act::RescueStep)
                 } else {
-                    Call::TakeOver(plan.victim)
+                    asked(plan.victim, Act::TakeOver)
                 }
             }
-            Actor::RescuerDeath => Call::RescuerFails(plan.victim),
+            Actor::RescuerDeath => asked(plan.victim, Act::RescuerFails),
             Actor::Other => {
                 if self.other == 0 {
                     other
                 } else {
-                    Call::Step(plan.host)
+                    asked(plan.host, Act::Step)
                 }
             }
-            Actor::Nobody => Call::Step(8),
+            Actor::Nobody => asked_of_nobody(),
         }
     }
 
@@ -280,10 +283,10 @@ impl Progress {
 fn set_up_call(set_up: &[u8], at: usize) -> Call {
     let from = at % 65536 * 4;
     if set_up.len() < 4 {
-        return Call::Step(8);
+        return asked_of_nobody();
     }
     if set_up.len() - 4 < from {
-        return Call::Step(8);
+        return asked_of_nobody();
     }
     known_call(
         set_up[from],
@@ -298,6 +301,6 @@ pub(crate) fn known_call(call: u8, client: u8, cell: u8, slot: u8) -> Call {
     let decoded = decode(call, client, cell, slot);
     match decoded {
         Decoded::Known(known) => known,
-        Decoded::Unknown => Call::Step(8),
+        Decoded::Unknown => asked_of_nobody(),
     }
 }

@@ -4,6 +4,8 @@ use crate::ledger::Ledger;
 use crate::ledger::no_lines;
 use block::Block;
 use block::fresh_block;
+use block::matrix::Matrix;
+use block::matrix::Row;
 use block::matrix::fresh_eras;
 use block::matrix::own_era;
 use block::store::block_after;
@@ -11,8 +13,6 @@ use block::store::eras_after;
 use calls::Call;
 use calls::Outcome;
 use calls::Records;
-use calls::client_of;
-use lookup_call::look_up;
 use machine::plain_call;
 use numbers::Client;
 use world::fresh_records;
@@ -21,7 +21,7 @@ use world::records_at;
 
 // A row of the era matrix.
 pub(crate) struct EraRow {
-    entries: [u32; 8],
+    entries: Row,
 }
 
 // The block, the matrix by rows, every client's records, and the ledger of the calls so far.
@@ -33,7 +33,7 @@ pub(crate) struct Scene {
 }
 
 // The rows of a matrix.
-fn rows_of(eras: [[u32; 8]; 8]) -> [EraRow; 8] {
+fn rows_of(eras: Matrix) -> [EraRow; 8] {
     [
         EraRow { entries: eras[0] },
         EraRow { entries: eras[1] },
@@ -47,12 +47,12 @@ fn rows_of(eras: [[u32; 8]; 8]) -> [EraRow; 8] {
 }
 
 // One row's entries.
-fn entries_of(row: EraRow) -> [u32; 8] {
+fn entries_of(row: EraRow) -> Row {
     row.entries
 }
 
 // The matrix of the rows.
-fn matrix_of(rows: [EraRow; 8]) -> [[u32; 8]; 8] {
+fn matrix_of(rows: [EraRow; 8]) -> Matrix {
     [
         entries_of(rows[0]),
         entries_of(rows[1]),
@@ -66,7 +66,7 @@ fn matrix_of(rows: [EraRow; 8]) -> [[u32; 8]; 8] {
 }
 
 // Before the first call, with a matrix to begin with.
-fn scene_with(eras: [[u32; 8]; 8]) -> Scene {
+fn scene_with(eras: Matrix) -> Scene {
     Scene {
         block: fresh_block(),
         rows: rows_of(eras),
@@ -97,15 +97,15 @@ pub(crate) fn given_scene(era: u32) -> Scene {
 
 impl Scene {
     // The era matrix.
-    pub(crate) fn matrix(self) -> [[u32; 8]; 8] {
+    pub(crate) fn matrix(self) -> Matrix {
         let rows = self.rows;
         matrix_of(rows)
     }
 
-    // The records that a call is given.
-    pub(crate) fn given_to(self, call: Call) -> Records {
+    // The records that a call of a client is given.
+    pub(crate) fn given_to(self, client: u64) -> Records {
         let records = self.records;
-        records_at(records, client_of(call))
+        records_at(records, client)
     }
 
     // A client's own era; 0 of a client that there is none.
@@ -121,27 +121,13 @@ impl Scene {
     // What a call answers, hands back and writes.
     pub(crate) fn outcome(self, call: Call) -> Outcome {
         let block = self.block;
-        let logs = block.logs;
-        let standings = block.standings;
-        let eras = self.matrix();
-        let given = self.given_to(call);
-        plain_call(
-            call,
-            &block.headers,
-            &block.cells,
-            logs,
-            standings,
-            &eras,
-            given,
-        )
+        let given = self.given_to(call.client);
+        plain_call(call, block, self.matrix(), given)
     }
 
-    // What a look up answers, as a number.
-    pub(crate) fn look_up(self, client: u64, cell: u64) -> u64 {
-        let block = self.block;
-        let standings = block.standings;
-        let given = self.given_to(Call::LookUp(client, cell));
-        let answer = look_up(client, cell, standings, &block.cells, given).answer;
+    // What a call answers, as a number.
+    pub(crate) fn answer(self, call: Call) -> u64 {
+        let answer = self.outcome(call).answer;
         answer.number()
     }
 
@@ -155,12 +141,12 @@ impl Scene {
         Scene {
             block: block_after(store, block),
             rows: rows_of(eras_after(store, self.matrix())),
-            records: records_after(records, client_of(call), next),
+            records: records_after(records, call.client, next),
             ledger: ledger.after(
                 call,
-                self.given_to(call),
+                self.given_to(call.client),
                 outcome,
-                self.era_of(client_of(call)),
+                self.era_of(call.client),
             ),
         }
     }

@@ -1,10 +1,14 @@
 // The sweep: every placement of the deaths and of the other host's operation that a section allows, each a run on a
 // fresh block through the proved machine, held to the ledger after every call. The views make the table of its numbers.
+use crate::acts::RELEASE;
+use crate::acts::RESCUE_STEP;
+use crate::acts::asked;
+use crate::acts::asked_of_nobody;
+use crate::acts::record_of;
 use crate::agree::Agreement;
 use crate::agree::held_to;
 use crate::choices::Choices;
 use crate::choices::first_choices;
-use crate::doing::is_rescue_step;
 use crate::doing::performed;
 use crate::endings::Endings;
 use crate::endings::no_endings;
@@ -18,8 +22,8 @@ use crate::scene::Scene;
 use crate::scene::fresh_scene;
 use crate::scene::given_scene;
 use block::header_at;
+use calls::Act;
 use calls::Call;
-use calls::client_of;
 use header::unpack;
 use libc::STDERR_FILENO;
 use libc::STDIN_FILENO;
@@ -104,7 +108,7 @@ fn run_from(plan: Plan, choices: Choices) -> Run {
     Run {
         scene: scene_of(plan),
         progress: at_start(choices),
-        call: Call::Step(8),
+        call: asked_of_nobody(),
         calls: 0,
         differs: 0,
         over: false,
@@ -131,9 +135,9 @@ fn turn(run: Run, plan: Plan, set_up: &[u8]) -> Run {
     let outcome = scene.outcome(call);
     let answer = outcome.answer;
     let number = answer.number();
-    let step = performed(call, scene.given_to(call), number).step;
+    let step = performed(call, scene.given_to(call.client), number).step;
     let next = scene.after(call, outcome);
-    let finished = number == 100 && is_rescue_step(call);
+    let finished = number == 100 && record_of(call).act == RESCUE_STEP;
     let differs = difference(held_to(next, finished, plan.victim));
     Run {
         scene: next,
@@ -319,28 +323,12 @@ fn print_endings(endings: Endings) {
 // A call as a record's four numbers.
 fn print_record(call: Call) {
     print::heading(b"record");
-    match call {
-        Call::Join(c) => print_numbers(1, c, 0, 0),
-        Call::Leave(c) => print_numbers(2, c, 0, 0),
-        Call::Lease(c, k, s) => print_numbers(3, c, k, s),
-        Call::Attach(c, k, s) => print_numbers(4, c, k, s),
-        Call::Release(c, k) => print_numbers(5, c, k, 0),
-        Call::Step(c) => print_numbers(6, c, 0, 0),
-        Call::Fail(c) => print_numbers(7, c, 0, 0),
-        Call::TakeOver(c) => print_numbers(8, c, 0, 0),
-        Call::RescueStep(c) => print_numbers(9, c, 0, 0),
-        Call::RescuerFails(c) => print_numbers(10, c, 0, 0),
-        Call::LookUp(c, k) => print_numbers(11, c, k, 0),
-    }
+    let record = record_of(call);
+    print::number(record.act);
+    print::number(record.client);
+    print::number(record.cell);
+    print::number(record.slot);
     print::line_end();
-}
-
-// Four numbers.
-fn print_numbers(call: u64, client: u64, cell: u64, slot: u64) {
-    print::number(call);
-    print::number(client);
-    print::number(cell);
-    print::number(slot);
 }
 
 // The calls of a run, up to the one after which it differs.
@@ -406,12 +394,6 @@ fn after_set_up(plan: Plan, set_up: &[u8]) -> Scene {
     run.scene
 }
 
-// What the world after the set-up answers to an opening: a sweep is of operations that it accepts.
-fn opens(scene: Scene, call: Call) -> u64 {
-    let answer = scene.outcome(call).answer;
-    answer.number()
-}
-
 // The line of an opening that is refused: 1 the victim's or 2 the other host's, and the answer.
 fn print_refused(whose: u64, answer: u64) {
     print::heading(b"refused");
@@ -422,13 +404,11 @@ fn print_refused(whose: u64, answer: u64) {
 
 // The slot of an opening; of a release, the slot in its cell.
 fn slot_of(call: Call, scene: Scene) -> u8 {
-    match call {
-        Call::Lease(_, _, s) => (s % 256) as u8,
-        Call::Attach(_, _, s) => (s % 256) as u8,
-        Call::Release(c, k) => (opens(scene, Call::LookUp(c, k)) % 100) as u8,
-        Call::Join(_) | Call::Leave(_) | Call::Step(_) | Call::Fail(_) | Call::TakeOver(_) => 0,
-        Call::RescueStep(_) | Call::RescuerFails(_) | Call::LookUp(_, _) => 0,
+    let record = record_of(call);
+    if record.act == RELEASE {
+        return (scene.answer(asked(record.client, Act::LookUp(record.cell))) % 100) as u8;
     }
+    (record.slot % 256) as u8
 }
 
 // Every section: deaths alone, and then with the other host.
@@ -448,12 +428,12 @@ fn sweep_plan(plan: Plan, set_up: &[u8], with_other: bool) {
     let scene = after_set_up(plan, set_up);
     let opening = plan.opening;
     let other = plan.other;
-    let victim = opens(scene, opening);
+    let victim = scene.answer(opening);
     if victim != 0 {
         print_refused(1, victim);
         return;
     }
-    let host = opens(scene, other);
+    let host = scene.answer(other);
     if with_other && host != 0 {
         print_refused(2, host);
         return;
@@ -476,10 +456,10 @@ pub(crate) fn sweep(trapped: bool) {
     let with_other = input[4] != 0;
     let plan = Plan {
         opening,
-        victim: client_of(opening),
+        victim: opening.client,
         slot: 0,
         other,
-        host: client_of(other),
+        host: other.client,
         set_ups: (n - 8) / 4,
         kills: 0,
         parts: 0,

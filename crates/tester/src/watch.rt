@@ -1,23 +1,26 @@
 // Watching a file of calls: for each call a line of numbers that says what it performed, the one word that it wrote and
 // what it answered; after the last, the slots, the ledger, the clients and the cells. The views put them into words.
+use crate::acts::RESCUE_STEP;
+use crate::acts::record_of;
 use crate::agree::tally;
 use crate::doing::Doing;
 use crate::doing::by_client;
 use crate::doing::by_rescuer;
-use crate::doing::is_rescue_step;
 use crate::doing::performed;
 use crate::print;
 use crate::scene::Scene;
 use crate::scene::given_scene;
 use crate::words::header_value;
 use crate::words::standing_of;
-use crate::words::standing_value;
+use crate::words::value_at;
 use crate::words::word_of;
-use crate::words::written_value;
 use block::Block;
 use block::fresh_block;
+use block::matrix::Matrix;
 use block::matrix::fresh_eras;
 use block::store::Store;
+use block::store::block_after;
+use block::store::eras_after;
 use calls::Call;
 use calls::Outcome;
 use calls::Records;
@@ -48,13 +51,13 @@ fn print_doing(doing: Doing, next: u64) {
 }
 
 // The word that a store writes, with its old and its new value.
-fn print_store(store: Store, block: Block, eras: [[u32; 8]; 8]) {
+fn print_store(store: Store, block: Block, eras: Matrix) {
     let word = word_of(store);
-    print::number(word.sort);
-    print::number(word.whose);
-    print::number(word.which);
-    print::value(standing_value(store, block, eras));
-    print::value(written_value(store));
+    print::number(word.sort as u64);
+    print::number(word.whose as u64);
+    print::number(word.which as u64);
+    print::value(value_at(word, block, eras));
+    print::value(value_at(word, block_after(store, block), eras_after(store, eras)));
 }
 
 // What comes next for the client or its rescuer.
@@ -63,7 +66,7 @@ fn next_step(call: Call, outcome: Outcome, answer: u64) -> u64 {
     if answer == 100 {
         return 0;
     }
-    if is_rescue_step(call) {
+    if record_of(call).act == RESCUE_STEP {
         let rescuer = records.rescuer;
         return by_rescuer(rescuer).step;
     }
@@ -90,7 +93,7 @@ fn print_outcome(place: u64, bytes: [u8; 4], call: Call, outcome: Outcome, scene
     let store = outcome.store;
     print_call(place, bytes, number);
     print_doing(
-        told_of(call, scene.given_to(call), outcome, number),
+        told_of(call, scene.given_to(call.client), outcome, number),
         next_step(call, outcome, number),
     );
     let block = scene.block;
@@ -182,7 +185,7 @@ fn under_way(records: Records, standing: u64) -> Doing {
 fn print_client(client: u8, scene: Scene) {
     let block = scene.block;
     let standing = standing_of(block, Client(client));
-    let doing = under_way(scene.given_to(Call::Step(client as u64)), standing);
+    let doing = under_way(scene.given_to(client as u64), standing);
     print::heading(b"client");
     print::number(client as u64);
     print::number(standing);

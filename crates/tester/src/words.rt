@@ -8,6 +8,7 @@ use block::Standing;
 use block::cell_at;
 use block::header_at;
 use block::log_at;
+use block::matrix::Matrix;
 use block::matrix::seen_era;
 use block::standing_at;
 use block::store::Store;
@@ -27,9 +28,9 @@ pub(crate) struct Value {
 
 // Which word: 0 none, 1 a slot's header, 2 a client's cell, 3 its log, 4 an entry of a row, 5 a standing.
 pub(crate) struct Word {
-    pub(crate) sort: u64,
-    pub(crate) whose: u64,
-    pub(crate) which: u64,
+    pub(crate) sort: u8,
+    pub(crate) whose: u8,
+    pub(crate) which: u8,
 }
 
 // A value of one number.
@@ -105,29 +106,22 @@ pub(crate) fn standing_of(block: Block, client: Client) -> u64 {
 pub(crate) fn word_of(store: Store) -> Word {
     match store {
         Store::Nothing => named(0, 0, 0),
-        Store::Header(slot, _) => named(1, slot.0 as u64, 0),
-        Store::Cell(client, cell, _) => named(2, client.0 as u64, cell as u64),
-        Store::Log(client, _) => named(3, client.0 as u64, 0),
-        Store::Era(by, of, _) => named(4, by.0 as u64, of.0 as u64),
-        Store::Standing(client, _) => named(5, client.0 as u64, 0),
+        Store::Header(slot, _) => named(1, slot.0, 0),
+        Store::Cell(client, cell, _) => named(2, client.0, cell),
+        Store::Log(client, _) => named(3, client.0, 0),
+        Store::Era(by, of, _) => named(4, by.0, of.0),
+        Store::Standing(client, _) => named(5, client.0, 0),
     }
 }
 
 // A word by its numbers.
-fn named(sort: u64, whose: u64, which: u64) -> Word {
+fn named(sort: u8, whose: u8, which: u8) -> Word {
     Word { sort, whose, which }
 }
 
-// What a store writes.
-pub(crate) fn written_value(store: Store) -> Value {
-    match store {
-        Store::Nothing => single(0),
-        Store::Header(_, word) => header_value(word),
-        Store::Cell(_, _, held) => cell_value(held),
-        Store::Log(_, entry) => entry_value(entry),
-        Store::Era(_, _, era) => single(era.0 as u64),
-        Store::Standing(_, standing) => single(standing_number(standing)),
-    }
+// Whether a store is that of a won swap.
+pub(crate) fn is_header(store: Store) -> bool {
+    word_of(store).sort == 1
 }
 
 // A client's cell's value.
@@ -147,19 +141,22 @@ fn value_of_log(block: Block, client: Client) -> Value {
 }
 
 // An era's value in the matrix.
-fn value_of_era(eras: [[u32; 8]; 8], by: Client, of: Client) -> Value {
+fn value_of_era(eras: Matrix, by: Client, of: Client) -> Value {
     let era = seen_era(&eras, by, of);
     single(era.0 as u64)
 }
 
-// What stands, before the store, in the word that it names.
-pub(crate) fn standing_value(store: Store, block: Block, eras: [[u32; 8]; 8]) -> Value {
-    match store {
-        Store::Nothing => single(0),
-        Store::Header(slot, _) => value_of_header(block, slot),
-        Store::Cell(client, cell, _) => value_in_cell(block, client, cell),
-        Store::Log(client, _) => value_of_log(block, client),
-        Store::Era(by, of, _) => value_of_era(eras, by, of),
-        Store::Standing(client, _) => single(standing_of(block, client)),
+// What stands in a word.
+pub(crate) fn value_at(word: Word, block: Block, eras: Matrix) -> Value {
+    let sort = word.sort;
+    let whose = word.whose;
+    let which = word.which;
+    match sort {
+        1 => value_of_header(block, Slot(whose)),
+        2 => value_in_cell(block, Client(whose), which),
+        3 => value_of_log(block, Client(whose)),
+        4 => value_of_era(eras, Client(whose), Client(which)),
+        5 => single(standing_of(block, Client(whose))),
+        _ => single(0),
     }
 }

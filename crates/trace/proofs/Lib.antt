@@ -1,6 +1,3 @@
-pub mod Spelling
-pub mod Filling
-pub mod Widths
 pub mod Playing
 pub mod Stepping
 pub mod Turns

@@ -1,107 +1,125 @@
--- Playing some bytes and then others is playing both, where the first are whole records. Assumes nothing.
-use Prim.Native.Nat.{ℕ, zero, suc, _+_, _≤_, _<_}
+-- Playing some records and then others is playing both. Assumes nothing.
+use Prim.Native.Nat.{ℕ, zero, suc, _+_, _*_, _≤_}
 use mathlib.Core.List.{List, [], _∷_, _++_, append-assoc}
 use mathlib.Core.Path.{_≡_, refl, sym, ap, _∙_}
 use native.Mathlib.Omega.{arith}
-use native.Mathlib.Numerals.{add-one}
-use lib.ListN.{length, take, drop, getD}
-use lib.Seq.{take-add, drop-cons}
-use Rattle.numbers.specs.declared.answers.Answer.{Answer}
+use lib.ListN.{length, drop, length-append, length-drop, getD, List·getD-append}
+use lib.Seq.{getD-drop, drop-drop, drop-at, drop-append-le}
+use Rattle.numbers.specs.Answers.{numberOf}
 use Rattle.header.specs.Header.{unpacked}
 use Rattle.block.specs.Block.{freshBlock}
-use Rattle.world.specs.World.{World, fresh}
+use Rattle.world.specs.World.{World, Machine, fresh}
 use Rattle.decode.specs.declared.Decoded.{Decoded}
 use Rattle.decode.specs.Decode.{decoded}
-use Rattle.trace.specs.Text.{line}
-use Rattle.trace.specs.Play.{textBy, worldBy, wholes, cut, slotsText, playedBy, printed}
+use Rattle.text.specs.Text.{lineSize}
+use Rattle.text.proofs.Widths.{line-most}
+use Rattle.trace.specs.Play.{recordSize, firstAsked, asked, wholes, cut, told, next, textBy, worldBy, slotsText, endText, playedBy, printed}
 
--- a record that is cut short is not nothing
-not-empty : {a : ℕ} {x : List ℕ} → a ∷ x ≡ [] → ⊥
-not-empty {a} {x} e = let z : length (a ∷ x) ≡ 0 = ap length e in omega arith
+-- what the record at a place of some bytes asks for
+pub first-at :
+    (bytes : List ℕ) (at : ℕ) →
+    firstAsked (drop at bytes)
+    ≡ decoded (getD bytes at 0) (getD bytes (at + 1) 0) (getD bytes (at + 2) 0) (getD bytes (at + 3) 0)
+first-at bytes at =
+    let z : at + 0 ≡ at = omega arith in
+    rw (getD-drop at bytes 0 0, z, getD-drop at bytes 1 0, getD-drop at bytes 2 0, getD-drop at bytes 3 0)
 
--- R5.3: only the last record can be cut short
-pub cut-then : (x y : List ℕ) → cut x ≡ [] → cut (x ++ y) ≡ cut y
-unfolding cut
-cut-then [] y h = refl
-cut-then (a ∷ []) y h = absurd (not-empty h)
-cut-then (a ∷ b ∷ []) y h = absurd (not-empty h)
-cut-then (a ∷ b ∷ c ∷ []) y h = absurd (not-empty h)
-cut-then (a ∷ b ∷ c ∷ d ∷ x) y h = cut-then x y h
+-- k records are k
+pub asked-length : (k : ℕ) (bytes : List ℕ) → length (asked k bytes) ≡ k
+unfolding asked
+asked-length zero bytes = refl
+asked-length (suc k) bytes = ap suc (asked-length k (drop recordSize bytes))
 
-pub wholes-then : (x y : List ℕ) → cut x ≡ [] → wholes (x ++ y) ≡ wholes x + wholes y
-unfolding cut wholes
-wholes-then [] y h = let z : wholes y ≡ 0 + wholes y = omega arith in z
-wholes-then (a ∷ []) y h = absurd (not-empty h)
-wholes-then (a ∷ b ∷ []) y h = absurd (not-empty h)
-wholes-then (a ∷ b ∷ c ∷ []) y h = absurd (not-empty h)
-wholes-then (a ∷ b ∷ c ∷ d ∷ x) y h =
-    let r = wholes-then x y h in
-    let z : suc (wholes (x ++ y)) ≡ suc (wholes x) + wholes y = omega arith in
-    z
+-- k records, and those after them
+pub asked-add : (k j : ℕ) (bytes : List ℕ) → asked (k + j) bytes ≡ asked k bytes ++ asked j (drop (k * recordSize) bytes)
+unfolding asked
+asked-add zero j bytes = let z : 0 + j ≡ j = omega arith in rw z refl
+asked-add (suc k) j bytes =
+    let s : suc k + j ≡ suc (k + j) = omega arith in
+    let m : recordSize + k * recordSize ≡ suc k * recordSize = omega arith in
+    rw (s, asked-add k j (drop recordSize bytes), drop-drop (k * recordSize) recordSize bytes, m) refl
 
-module _ (told : World → Decoded → Answer) (next : World → Decoded → World) where
+-- one record more
+pub asked-more :
+    (k : ℕ) (bytes : List ℕ) → asked (k + 1) bytes ≡ asked k bytes ++ (firstAsked (drop (k * recordSize) bytes) ∷ [])
+unfolding asked
+asked-more k bytes = asked-add k 1 bytes
+
+-- bytes after k records do not change what they ask for
+pub asked-append : (k : ℕ) (x y : List ℕ) → k * recordSize ≤ length x → asked k (x ++ y) ≡ asked k x
+unfolding asked
+asked-append zero x y h = refl
+asked-append (suc k) x y h =
+    let l = length-drop recordSize x in
+    let byte : (i : ℕ) → i + 1 ≤ recordSize → getD (x ++ y) i 0 ≡ getD x i 0 =
+    λ i b. List·getD-append x y 0 i (omega arith) in
+    rw (
+      byte 0 (omega arith),
+      byte 1 (omega arith),
+      byte 2 (omega arith),
+      byte 3 (omega arith),
+      drop-append-le recordSize x y (omega arith),
+      asked-append k (drop recordSize x) y (omega arith),
+    ) refl
+
+module _ (m : Machine) where
   -- the world after both
-  pub world-then : (w : World) (x y : List ℕ) → cut x ≡ [] → worldBy next w (x ++ y) ≡ worldBy next (worldBy next w x) y
-  unfolding cut worldBy
-  world-then w [] y h = refl
-  world-then w (a ∷ []) y h = absurd (not-empty h)
-  world-then w (a ∷ b ∷ []) y h = absurd (not-empty h)
-  world-then w (a ∷ b ∷ c ∷ []) y h = absurd (not-empty h)
-  world-then w (a ∷ b ∷ c ∷ d ∷ x) y h = world-then (next w (decoded a b c d)) x y h
+  pub world-then : (w : World) (x y : List Decoded) → worldBy m w (x ++ y) ≡ worldBy m (worldBy m w x) y
+  unfolding worldBy
+  world-then w [] y = refl
+  world-then w (d ∷ x) y = world-then (next m w d) x y
 
   -- the lines of both
   pub text-then :
-      (w : World) (n : ℕ) (x y : List ℕ) →
-      cut x ≡ [] →
-      textBy told next w n (x ++ y) ≡ textBy told next w n x ++ textBy told next (worldBy next w x) (n + wholes x) y
-  unfolding cut worldBy wholes textBy
-  text-then w n [] y h = let z : n + 0 ≡ n = omega arith in rw z refl
-  text-then w n (a ∷ []) y h = absurd (not-empty h)
-  text-then w n (a ∷ b ∷ []) y h = absurd (not-empty h)
-  text-then w n (a ∷ b ∷ c ∷ []) y h = absurd (not-empty h)
-  text-then w n (a ∷ b ∷ c ∷ d ∷ x) y h =
-      let m : n + suc (wholes x) ≡ n + 1 + wholes x = omega arith in
-      rw (m, text-then (next w (decoded a b c d)) (n + 1) x y h) (simp append-assoc)
+      (w : World) (n : ℕ) (x y : List Decoded) →
+      textBy m w n (x ++ y) ≡ textBy m w n x ++ textBy m (worldBy m w x) (n + length x) y
+  unfolding worldBy textBy
+  text-then w n [] y = let z : n + 0 ≡ n = omega arith in rw z refl
+  text-then w n (d ∷ x) y =
+      let s : n + suc (length x) ≡ n + 1 + length x = omega arith in
+      rw (s, text-then (next m w d) (n + 1) x y) (simp append-assoc)
+
+  -- the lines of some records are no longer than the longest each
+  pub text-most : (w : World) (n : ℕ) (x : List Decoded) → length (textBy m w n x) ≤ length x * lineSize
+  unfolding textBy
+  text-most w n [] = omega arith
+  text-most w n (d ∷ x) =
+      let h = line-most n (numberOf (told m w d)) in
+      let r = text-most (next m w d) (n + 1) x in
+      simp length-append (omega arith)
+
+  -- what is printed from k records on
+  pub played-from :
+      (w : World) (n k : ℕ) (bytes : List ℕ) →
+      k * recordSize ≤ length bytes →
+      playedBy m w n bytes
+      ≡ textBy m w n (asked k bytes)
+      ++ playedBy m (worldBy m w (asked k bytes)) (n + k) (drop (k * recordSize) bytes)
+  unfolding playedBy
+  played-from w n k bytes h =
+      let rest = drop (k * recordSize) bytes in
+      let l = length-drop (k * recordSize) bytes in
+      let j : wholes bytes ≡ k + wholes rest = omega arith in
+      let a : asked (wholes bytes) bytes ≡ asked k bytes ++ asked (wholes rest) rest =
+      ap (λ (i : ℕ). asked i bytes) j ∙ asked-add k (wholes rest) bytes in
+      let c : cut bytes ≡ cut rest =
+      ap (λ (i : ℕ). drop (i * recordSize) bytes) j
+      ∙ ap (λ (i : ℕ). drop i bytes) (let z : (k + wholes rest) * recordSize ≡ k * recordSize + wholes rest * recordSize = omega arith in z)
+      ∙ sym (drop-drop (wholes rest * recordSize) (k * recordSize) bytes) in
+      let p : n + (k + wholes rest) ≡ n + k + wholes rest = omega arith in
+      ap (λ (x : List Decoded). textBy m w n x ++ endText (worldBy m w x .block .headers) (n + wholes bytes) (cut bytes)) a
+      ∙ rw (c, j, p, text-then w n (asked k bytes) (asked (wholes rest) rest), world-then w (asked k bytes) (asked (wholes rest) rest), asked-length k bytes) (simp append-assoc)
 
   -- how the input is cut into turns does not change what is printed
   pub played-then :
-      (w : World) (n : ℕ) (x y : List ℕ) →
-      cut x ≡ [] →
-      playedBy told next w n (x ++ y) ≡ textBy told next w n x ++ playedBy told next (worldBy next w x) (n + wholes x) y
-  unfolding playedBy
-  played-then w n x y h =
-      let m : n + (wholes x + wholes y) ≡ n + wholes x + wholes y = omega arith in
-      rw (text-then w n x y h, world-then w x y h, wholes-then x y h, cut-then x y h, m) (simp append-assoc)
-
--- the next four bytes, and those after them
-pub four-next :
-    (input : List ℕ) (at : ℕ) →
-    at + 4 ≤ length input →
-    drop at input
-    ≡ getD input at 0 ∷ getD input (at + 1) 0 ∷ getD input (at + 2) 0 ∷ getD input (at + 3) 0 ∷ drop (at + 4) input
-four-next input at h =
-    let at-cons : (i : ℕ) → i < length input → drop i input ≡ getD input i 0 ∷ drop (i + 1) input =
-    λ i l. drop-cons input i 0 l ∙ ap (λ (m : ℕ). getD input i 0 ∷ drop m input) (sym (add-one i)) in
-    let s2 : at + 1 + 1 ≡ at + 2 = omega arith in
-    let s3 : at + 2 + 1 ≡ at + 3 = omega arith in
-    let s4 : at + 3 + 1 ≡ at + 4 = omega arith in
-    let d1 = rw s2 at (at-cons (at + 1) (omega arith)) in
-    let d2 = rw s3 at (at-cons (at + 2) (omega arith)) in
-    let d3 = rw s4 at (at-cons (at + 3) (omega arith)) in
-    at-cons at (omega arith)
-    ∙ ap (λ (x : List ℕ). getD input at 0 ∷ x)
-    (d1 ∙ ap (λ (x : List ℕ). getD input (at + 1) 0 ∷ x)
-    (d2 ∙ ap (λ (x : List ℕ). getD input (at + 2) 0 ∷ x) d3))
-
-pub four-more :
-    (input : List ℕ) (at : ℕ) →
-    at + 4 ≤ length input →
-    take (at + 4) input
-    ≡ take at input
-    ++ (getD input at 0 ∷ getD input (at + 1) 0 ∷ getD input (at + 2) 0 ∷ getD input (at + 3) 0 ∷ [])
-four-more input at h = take-add at 4 input ∙ ap (λ (x : List ℕ). take at input ++ take 4 x) (four-next input at h)
+      (w : World) (n k : ℕ) (x y : List ℕ) →
+      length x ≡ k * recordSize →
+      playedBy m w n (x ++ y) ≡ textBy m w n (asked k x) ++ playedBy m (worldBy m w (asked k x)) (n + k) y
+  played-then w n k x y h =
+      played-from w n k (x ++ y) (simp length-append (omega arith))
+      ∙ rw (asked-append k x y (omega arith), drop-at x y (k * recordSize) h) refl
 
 -- R5.6: an empty input prints nothing
 pub empty-prints-nothing : printed [] ≡ []
-unfolding printed playedBy textBy worldBy wholes cut fresh slotsText freshBlock unpacked
+unfolding printed playedBy asked textBy worldBy fresh slotsText freshBlock unpacked
 empty-prints-nothing = refl

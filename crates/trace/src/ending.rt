@@ -1,17 +1,16 @@
 // What stands after the records' lines: the line of a cut record, and a line for each slot in use.
-use crate::text::put_line;
-use crate::text::put_slot_line;
 use header::unpack;
-ghost use mathlib.Core.Path.{_≡_};
+use text::put_line;
+use text::put_slot_line;
 ghost use Prim.Native.Nat.{_+_, _*_, _≤_};
 ghost use lib.ListN.{length};
-ghost use Rattle.trace.specs.Text.{Put};
+ghost use Rattle.text.specs.Text.{lineSize, slotLineSize, Put};
 ghost use Rattle.trace.specs.Play.{cutText, slotText, slotsText};
 
 // The line of a record that is cut short, where bytes of one are left. Answers where it ends.
 pub(crate) fn put_cut<'a>(out: &'a mut [u8], rest: &'a [u8], place: u64) -> usize
-    requires { ⌜ 42 ≤ length (now out) ⌝ }
-    ensures { λ r. ⌜ Put (now (out .entry)) 0 (cutText place (now (rest .entry))) (now (out .exit)) r × (r ≤ 42) ⌝ }
+    requires { ⌜ lineSize ≤ length (now out) ⌝ }
+    ensures { λ r. ⌜ Put (now (out .entry)) 0 (cutText place (now (rest .entry))) (now (out .exit)) r ⌝ }
 {
     if rest.len() == 0 {
         return 0;
@@ -21,8 +20,8 @@ pub(crate) fn put_cut<'a>(out: &'a mut [u8], rest: &'a [u8], place: u64) -> usiz
 
 // The line of a slot, where its count is above 0. Answers where it ends.
 fn put_slot(out: &mut [u8], at: usize, slot: usize, header: u64) -> usize
-    requires { ⌜ at + 47 ≤ length (now out) ⌝ }
-    ensures { λ r. ⌜ Put (now (out .entry)) at (slotText slot header) (now (out .exit)) r × (r ≤ at + 47) ⌝ }
+    requires { ⌜ at + slotLineSize ≤ length (now out) ⌝ }
+    ensures { λ r. ⌜ Put (now (out .entry)) at (slotText slot header) (now (out .exit)) r ⌝ }
 {
     let count = unpack(header).count;
     if count == 0 {
@@ -33,8 +32,8 @@ fn put_slot(out: &mut [u8], at: usize, slot: usize, header: u64) -> usize
 
 // The lines of the slots in use, in their order. Answers where they end.
 pub(crate) fn put_slots<'a>(out: &'a mut [u8], at: usize, headers: &'a [u64]) -> usize
-    requires { ⌜ at + 47 * length (now headers) ≤ length (now out) ⌝ }
-    ensures { λ r. ⌜ Put (now (out .entry)) at (slotsText 0 (now (headers .entry))) (now (out .exit)) r × (r ≤ length (now (out .entry))) ⌝ }
+    requires { ⌜ at + slotLineSize * length (now headers) ≤ length (now out) ⌝ }
+    ensures { λ r. ⌜ Put (now (out .entry)) at (slotsText 0 (now (headers .entry))) (now (out .exit)) r ⌝ }
 {
     let mut end = at;
     let mut slot: usize = 0;

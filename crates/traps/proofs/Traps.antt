@@ -5,7 +5,6 @@ use Prim.Native.Nat.{ℕ}
 use mathlib.Core.Bool.{true}
 use mathlib.Core.Path.{_≡_, refl, ap}
 use native.Mathlib.Omega.{arith}
-use mathlib.Core.List.{List}
 use lib.ListN.{take}
 use Rattle.numbers.specs.Answers.{numberOf}
 use Rattle.header.specs.Header.{packed, unpacked, spareIn}
@@ -15,36 +14,31 @@ use Rattle.stages.specs.Stages.{loadStage, noteStage, logStage, swapStage, writ
 use Rattle.rescue.specs.Search.{lowestFrom}
 use Rattle.rescue.specs.Rescue.{firstCondition, secondCondition, writeCell, raiseEra, rescueOf}
 use Rattle.limits.specs.Limits.{headerWithin, entryWithin, blockWithin, rowWithin, stageWithin, rescueWithin, within}
-use Rattle.calls.specs.declared.Call.{Call}
-use Rattle.calls.specs.Calls.{checks, looked, effect, plainCall, checkedCall}
-use Rattle.world.specs.World.{fresh, after, run}
-use Rattle.history.specs.Ledger.{struck, turnedTo, naming, shownBy}
+use Rattle.calls.specs.Calls.{asks, looked, effect, plainCall, checkedCall}
+use Rattle.world.specs.World.{fresh, afterBy, runBy}
+use Rattle.history.specs.Ledger.{struck, phased, performedBy, enteredBy, ledgerBy, naming, shownBy}
+use Rattle.history.specs.Demand3.{Keeps}
 use Rattle.situations.specs.Situation.{sharedWords, isSo, comesAbout, holds}
-use Rattle.traps.specs.Machine.{afterCall, runOf, performedBy, enteredBy, ledgerOf, Keeps}
-use Rattle.traps.specs.Variant.{allBut, freshUnder, rowWithinUnder, withinUnder, stepUnder, rescueUnder, effectUnder, callUnder, under}
+use Rattle.traps.specs.Variant.{freshFromZero, withinFromZero, breaking}
 use Rattle.traps.specs.Traps.{linesOf, ending, Trap, Caught, AllCaught, callsIn, eras-from-zero, condition-2-first, row-wiped-at-leave, row-wiped-at-rescue, counts-compared, note-after-swap, released-cell-believed}
-use Rattle.traps.proofs.Real.{real-keeps}
-use Rattle.traps.proofs.Variant.{unbroken-is-real}
-
--- D3 holds after every history where no rule is broken
-pub unbroken-keeps : (h : List Call) → Keeps (under (allBut 0)) h
-unfolding freshUnder fresh
-unbroken-keeps h = rw unbroken-is-real (real-keeps h)
-
--- so it does after each history of the traps
-keeps-in : (t : Trap) → Keeps (under (allBut 0)) (take (t .after) (callsIn t))
-keeps-in t = unbroken-keeps (take (t .after) (callsIn t))
+use Rattle.traps.proofs.Variant.{unbroken-keeps}
 
 -- what is played of a trap, beside what the theorem of demand 3 says of it
 played :
     (t : Trap) →
     holds (t .history) ≡ true →
-    ending (under (allBut (t .number))) (t .client) (callsIn t) ≡ t .trapped →
-    ending (under (allBut 0)) (t .client) (callsIn t) ≡ t .unbroken →
-    (Keeps (under (allBut (t .number))) (take (t .after) (callsIn t)) → ⊥) →
+    ending (breaking (t .number)) (t .client) (callsIn t) ≡ t .trapped →
+    ending (breaking 0) (t .client) (callsIn t) ≡ t .unbroken →
+    (Keeps (breaking (t .number)) (take (t .after) (callsIn t)) → ⊥) →
     Caught t
 played t comes-about trapped unbroken fails =
-    record { comes-about = comes-about; fails = fails; keeps = keeps-in t; trapped = trapped; unbroken = unbroken }
+    record {
+      comes-about = comes-about;
+      fails = fails;
+      keeps = unbroken-keeps (take (t .after) (callsIn t));
+      trapped = trapped;
+      unbroken = unbroken;
+    }
 
 -- R7: each of them. Where its rule is broken, (a) fails in the first and the fifth, with a count of 0 and one line; (d)
 -- in those between and in the sixth, with a rescue that ends and a line of client 0; (b) in the last, with a look up
@@ -52,10 +46,9 @@ played t comes-about trapped unbroken fails =
 pub all-caught : AllCaught
 unfolding packed unpacked spareIn freshBlock freshEras loadStage noteStage logStage swapStage written cellStage
     eraStage stepOf lowestFrom firstCondition secondCondition writeCell raiseEra rescueOf headerWithin
-    entryWithin blockWithin rowWithin stageWithin rescueWithin within checks looked effect plainCall checkedCall
-    fresh after run sharedWords isSo comesAbout holds linesOf naming shownBy struck turnedTo ending
-    freshUnder rowWithinUnder withinUnder stepUnder rescueUnder effectUnder callUnder afterCall runOf performedBy
-    enteredBy ledgerOf
+    entryWithin blockWithin rowWithin stageWithin rescueWithin within asks looked effect plainCall checkedCall
+    fresh afterBy runBy sharedWords isSo comesAbout holds linesOf naming shownBy struck phased performedBy enteredBy
+    ledgerBy ending freshFromZero withinFromZero
 all-caught =
     record {
       eras-begin-at-one = played eras-from-zero refl refl refl

@@ -1,4 +1,4 @@
-pub mod Machine
+pub mod Cases
 pub mod Impostors
 pub mod Variant
 pub mod Traps

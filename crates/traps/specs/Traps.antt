@@ -10,13 +10,15 @@ use lib.ListN.{replicate, take}
 use Rattle.header.specs.Header.{countIn}
 use Rattle.block.specs.Block.{headerAt}
 use Rattle.calls.specs.declared.Call.{Call}
-use Rattle.history.specs.Ledger.{Line, naming}
+use Rattle.calls.specs.Named.{join, lease, attach, release, step, fail, takeOver, rescueStep, lookUp}
+use Rattle.world.specs.World.{Machine, runBy}
+use Rattle.history.specs.Ledger.{Line, ledgerBy, naming}
+use Rattle.history.specs.Demand3.{Keeps}
 use Rattle.situations.specs.Situation.{Situation, file, callsOf, holds, found, answered, accepted, steps, wholeLease, rescueSteps, lastRescueSteps, rescue}
 use Rattle.situations.specs.Situation.Item.{gets}
 use Rattle.situations.specs.Situation.Fact.{countIs, ownEraIs, entryIs, cellHolds}
 use Rattle.situations.specs.Table.{failsInLease, l-row-of-client-that-left, l-row-of-client-rescued}
-use Rattle.traps.specs.Machine.{Machine, runOf, ledgerOf, Keeps}
-use Rattle.traps.specs.Variant.{allBut, under}
+use Rattle.traps.specs.Variant.{breaking}
 
 -- how many lines are client c's
 unfoldable pub linesOf : ℕ → List Line → ℕ
@@ -34,9 +36,9 @@ pub record Ending : Type 0 where
 -- what a machine ends a history with, c being the client that was rescued
 unfoldable pub ending : Machine → ℕ → List Call → Ending
 ending m c h =
-    let lines = ledgerOf m (m .start) [] h in
+    let lines = ledgerBy m (m .start) [] h in
     record {
-      count = countIn (headerAt (runOf m (m .start) h .block .headers) 5);
+      count = countIn (headerAt (runBy m (m .start) h .block .headers) 5);
       lines = naming 5 lines;
       left = linesOf c lines;
     }
@@ -60,12 +62,12 @@ pub record Caught (t : Trap) : Type 0 where
   -- the machine of the rules answers the numbers that the history is written with
   pub comes-about : holds (t .history) ≡ true
   -- demand 3 fails where the rule is broken
-  pub fails : Keeps (under (allBut (t .number))) (take (t .after) (callsIn t)) → ⊥
+  pub fails : Keeps (breaking (t .number)) (take (t .after) (callsIn t)) → ⊥
   -- and holds where none is
-  pub keeps : Keeps (under (allBut 0)) (take (t .after) (callsIn t))
+  pub keeps : Keeps (breaking 0) (take (t .after) (callsIn t))
   -- what the two end with
-  pub trapped : ending (under (allBut (t .number))) (t .client) (callsIn t) ≡ t .trapped
-  pub unbroken : ending (under (allBut 0)) (t .client) (callsIn t) ≡ t .unbroken
+  pub trapped : ending (breaking (t .number)) (t .client) (callsIn t) ≡ t .trapped
+  pub unbroken : ending (breaking 0) (t .client) (callsIn t) ≡ t .unbroken
 
 -- R7.1. Own eras begin at 0. Client 0 fails after its first log. The untouched header {0, 0, 0} has client 0 and era 0,
 -- so that condition 1 says yes, and the rescue writes slot 5 into cell 2. Client 1 leases slot 5; the rescue releases
@@ -77,10 +79,10 @@ eras-from-zero =
       history =
           file
           (failsInLease 0 3
-          ++ accepted (Call.TakeOver 0)
+          ++ accepted (takeOver 0)
           ++ rescueSteps 0 5
-          ++ accepted (Call.Join 1)
-          ++ accepted (Call.Lease 1 3 5)
+          ++ accepted (join 1)
+          ++ accepted (lease 1 3 5)
           ++ steps 1 4
           ++ lastRescueSteps 0 5
           ++ found (countIs 5 1 ∷ ownEraIs 0 1 ∷ []));
@@ -101,10 +103,10 @@ condition-2-first =
       history =
           file
           (failsInLease 0 4
-          ++ accepted (Call.TakeOver 0)
+          ++ accepted (takeOver 0)
           ++ rescueSteps 0 2
-          ++ accepted (Call.Join 1)
-          ++ accepted (Call.Attach 1 3 5)
+          ++ accepted (join 1)
+          ++ accepted (attach 1 3 5)
           ++ steps 1 4
           ++ lastRescueSteps 0 10
           ++ found (countIs 5 1 ∷ ownEraIs 0 3 ∷ []));
@@ -149,18 +151,18 @@ counts-compared =
       number = 4;
       history =
           file
-          (accepted (Call.Join 0)
-          ++ accepted (Call.Lease 0 2 5)
+          (accepted (join 0)
+          ++ accepted (lease 0 2 5)
           ++ steps 0 1
-          ++ accepted (Call.Join 1)
+          ++ accepted (join 1)
           ++ wholeLease 1 3 5
-          ++ accepted (Call.Release 1 3)
+          ++ accepted (release 1 3)
           ++ steps 1 4
-          ++ accepted (Call.Fail 1)
+          ++ accepted (fail 1)
           ++ steps 0 2
-          ++ answered (Call.Step 0) 101
+          ++ answered (step 0) 101
           ++ rescue 1 5
-          ++ replicate 9 (gets (Call.RescueStep 1) 4)
+          ++ replicate 9 (gets (rescueStep 1) 4)
           ++ found (countIs 5 0 ∷ ownEraIs 1 3 ∷ []));
       after = 35;
       client = 1;
@@ -178,8 +180,8 @@ note-after-swap =
       history =
           file
           (failsInLease 0 4
-          ++ accepted (Call.Join 1)
-          ++ accepted (Call.Attach 1 3 5)
+          ++ accepted (join 1)
+          ++ accepted (attach 1 3 5)
           ++ steps 1 3
           ++ rescue 0 12
           ++ found (countIs 5 0 ∷ entryIs 1 0 1 ∷ ownEraIs 0 3 ∷ []));
@@ -198,15 +200,15 @@ released-cell-believed =
       number = 6;
       history =
           file
-          (accepted (Call.Join 0)
+          (accepted (join 0)
           ++ wholeLease 0 2 5
-          ++ accepted (Call.Release 0 2)
+          ++ accepted (release 0 2)
           ++ steps 0 4
-          ++ accepted (Call.Join 1)
-          ++ accepted (Call.Lease 1 3 5)
+          ++ accepted (join 1)
+          ++ accepted (lease 1 3 5)
           ++ steps 1 4
           ++ found (cellHolds 0 2 5 ∷ countIs 5 1 ∷ [])
-          ++ answered (Call.LookUp 0 2) 199);
+          ++ answered (lookUp 0 2) 199);
       after = 19;
       client = 0;
       trapped = record { count = 1; lines = 1; left = 0 };

@@ -1,17 +1,24 @@
--- A history of calls (R1.10): from a fresh block, each call is given the block and the records last handed back.
+-- A history of calls (R1.10): from a fresh block, each call is given the block and the records last handed back. What a
+-- history is, is said of any machine; the machine of the rules is `rules`, and what is said of it has the short names.
 use Prim.Native.Nat.{ℕ}
+use mathlib.Core.Bool.{Bool}
 use mathlib.Core.List.{List, [], _∷_}
 use lib.ListN.{getD, set, replicate}
 use Rattle.numbers.specs.Sizes.{clients}
 use Rattle.numbers.specs.declared.answers.Answer.{Answer}
 use Rattle.block.specs.declared.Block.{Block}
+use Rattle.block.specs.declared.store.Store.{Store}
 use Rattle.block.specs.Block.{freshBlock}
 use Rattle.block.specs.Matrix.{freshEras}
 use Rattle.block.specs.Store.{blockAfter, erasAfter}
+use Rattle.stages.specs.declared.ClientRecord.{ClientRecord}
+use Rattle.stages.specs.Stages.{won}
+use Rattle.rescue.specs.declared.RescuerRecord.{RescuerRecord}
+use Rattle.limits.specs.Limits.{within}
 use Rattle.calls.specs.declared.Call.{Call}
 use Rattle.calls.specs.declared.Records.{Records}
 use Rattle.calls.specs.declared.Outcome.{Outcome}
-use Rattle.calls.specs.Calls.{clientOf, nothing, checkedCall}
+use Rattle.calls.specs.Calls.{nothing, checkedCall}
 
 -- the shared words, and every client's private words
 pub record World : Type 0 where
@@ -35,24 +42,62 @@ freshRecords = replicate clients nothing
 unfoldable pub fresh : World
 fresh = record { block = freshBlock; eras = freshEras; records = freshRecords }
 
--- R1.10: what a call answers, hands back and writes in a world
+-- what a call answers, hands back and writes
+abbrev pub CallFunction : Type 0
+CallFunction = Call → Block → List (List ℕ) → Records → Outcome
+
+-- what two machines may differ in
+pub record Machine : Type 0 where
+  -- the world before the first call
+  pub start : World
+  pub call : CallFunction
+  -- the matrix after a store
+  pub matrixAfter : Store → List (List ℕ) → List (List ℕ)
+  -- whether the words that a call is given are within their limits
+  pub limits : ℕ → Block → List (List ℕ) → ClientRecord → RescuerRecord → Bool
+  -- whether a swap is won, given the slot's header and the kept one
+  pub wins : ℕ → ℕ → Bool
+
+-- the machine of the rules, with another call function
+abbrev pub calling : CallFunction → Machine
+calling call = record { start = fresh; call = call; matrixAfter = erasAfter; limits = within; wins = won }
+
+-- the machine of the rules
+abbrev pub rules : Machine
+rules = calling checkedCall
+
+module _ (m : Machine) where
+  -- R1.10: what a call answers, hands back and writes in a world
+  abbrev pub outcomeBy : World → Call → Outcome
+  outcomeBy w call = m .call call (w .block) (w .eras) (recordsAt (w .records) (call .client))
+
+  abbrev pub answerBy : World → Call → Answer
+  answerBy w call = outcomeBy w call .answer
+
+  -- R1.10: the world after a call
+  unfoldable pub afterBy : World → Call → World
+  afterBy w call =
+      let o = outcomeBy w call in
+      record {
+        block = blockAfter (o .store) (w .block);
+        eras = m .matrixAfter (o .store) (w .eras);
+        records = recordsAfter (w .records) (call .client) (o .records);
+      }
+
+  -- R1.10: the world after a list of calls
+  unfoldable pub runBy : World → List Call → World
+  runBy w [] = w
+  runBy w (call ∷ rest) = runBy (afterBy w call) rest
+
+-- R1.10: the same of the machine of the rules
 abbrev pub outcome : World → Call → Outcome
-outcome w call = checkedCall call (w .block) (w .eras) (recordsAt (w .records) (clientOf call))
+outcome = outcomeBy rules
 
 abbrev pub answer : World → Call → Answer
-answer w call = outcome w call .answer
+answer = answerBy rules
 
--- R1.10: the world after a call
-unfoldable pub after : World → Call → World
-after w call =
-    let o = outcome w call in
-    record {
-      block = blockAfter (o .store) (w .block);
-      eras = erasAfter (o .store) (w .eras);
-      records = recordsAfter (w .records) (clientOf call) (o .records);
-    }
+abbrev pub after : World → Call → World
+after = afterBy rules
 
--- R1.10: the world after a list of calls
-unfoldable pub run : World → List Call → World
-run w [] = w
-run w (call ∷ rest) = run (after w call) rest
+abbrev pub run : World → List Call → World
+run = runBy rules

@@ -2,21 +2,22 @@
 // were last handed back.
 use calls::Records;
 use calls::nothing;
+use numbers::CLIENTS;
 ghost use mathlib.Core.Path.{_≡_};
 ghost use Rattle.world.specs.World.{recordsAt, recordsAfter, freshRecords};
 
 // The records of every client before the first call.
-pub fn fresh_records() -> [Records; 8]
+pub fn fresh_records() -> [Records; CLIENTS]
     ensures { λ r. ⌜ r ≡ freshRecords ⌝ }
 {
-    [nothing(); 8]
+    [nothing(); CLIENTS]
 }
 
 // The records of the client that a call names; of a client that there is none, records with nothing under way.
-pub fn records_at(records: [Records; 8], client: u64) -> Records
+pub fn records_at(records: [Records; CLIENTS], client: u64) -> Records
     ensures { λ r. ⌜ r ≡ recordsAt records client ⌝ }
 {
-    if client < 8 {
+    if client < CLIENTS as u64 {
         let at = client as usize;
         records[at]
     } else {
@@ -25,11 +26,11 @@ pub fn records_at(records: [Records; 8], client: u64) -> Records
 }
 
 // The records of every client after a call handed back those of one.
-pub fn records_after(records: [Records; 8], client: u64, next: Records) -> [Records; 8]
+pub fn records_after(records: [Records; CLIENTS], client: u64, next: Records) -> [Records; CLIENTS]
     ensures { λ r. ⌜ r ≡ recordsAfter records client next ⌝ }
 {
     let mut after = records;
-    if client < 8 {
+    if client < CLIENTS as u64 {
         let at = client as usize;
         after[at] = next;
         return after;

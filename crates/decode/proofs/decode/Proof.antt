@@ -1,11 +1,13 @@
--- `decode::decode` meets its contract: within the words it reads the word, and past them what the definition has there.
 -- Assumes nothing.
+-- `decode::decode` meets its contract: each arm is the table at its number, and the rest is past its end or 0.
 use Prim.Native.Nat.{ℕ, _+_, _≤_}
 use mathlib.Core.Path.{_≡_, sym}
 use native.Mathlib.Omega.{arith}
 use lib.ListN.{List·getD-eq-default}
 use Rattle.decode.specs.declared.Decoded.{Decoded}
 use Rattle.decode.specs.Decode.{known, decoded}
+use mathlib.Core.Path.{_∙_}
+use borrow.Author.Needs.{needs}
 use Rattle.decode.proofs.decode.Statement.{statement}
 use Rattle.decode.proofs.decode.Tie as tie
 
@@ -13,49 +15,82 @@ use Rattle.decode.proofs.decode.Tie as tie
 up : (n x : ℕ) → n ≤ x → (x ≡ n → ⊥) → n + 1 ≤ x
 up n x h e = omega arith
 
+known-requires : tie.Need-known-requires
+known-requires c κs = search needs
+
+known-requires-2 : tie.Need-known-requires-2
+known-requires-2 c κs = search needs
+
+known-requires-3 : tie.Need-known-requires-3
+known-requires-3 c κs = search needs
+
+known-requires-4 : tie.Need-known-requires-4
+known-requires-4 c κs = search needs
+
+known-requires-5 : tie.Need-known-requires-5
+known-requires-5 c κs = search needs
+
+known-requires-6 : tie.Need-known-requires-6
+known-requires-6 c κs = search needs
+
+known-requires-7 : tie.Need-known-requires-7
+known-requires-7 c κs = search needs
+
+known-requires-8 : tie.Need-known-requires-8
+known-requires-8 c κs = search needs
+
+known-requires-9 : tie.Need-known-requires-9
+known-requires-9 c κs = search needs
+
+known-requires-10 : tie.Need-known-requires-10
+known-requires-10 c κs = search needs
+
+known-requires-11 : tie.Need-known-requires-11
+known-requires-11 c κs = search needs
+
 returns : tie.Need-returns
 unfolding decoded
-returns c = rw (c .match .keys1)
+returns c = c .known .ensures ∙ rw (c .before .match .keys1)
 
 returns-2 : tie.Need-returns-2
 unfolding decoded
-returns-2 c = rw (c .match .keys2)
+returns-2 c = c .known2 .ensures ∙ rw (c .before .match .keys2)
 
 returns-3 : tie.Need-returns-3
 unfolding decoded
-returns-3 c = rw (c .match .keys3)
+returns-3 c = c .known3 .ensures ∙ rw (c .before .match .keys3)
 
 returns-4 : tie.Need-returns-4
 unfolding decoded
-returns-4 c = rw (c .match .keys4)
+returns-4 c = c .known4 .ensures ∙ rw (c .before .match .keys4)
 
 returns-5 : tie.Need-returns-5
 unfolding decoded
-returns-5 c = rw (c .match .keys5)
+returns-5 c = c .known5 .ensures ∙ rw (c .before .match .keys5)
 
 returns-6 : tie.Need-returns-6
 unfolding decoded
-returns-6 c = rw (c .match .keys6)
+returns-6 c = c .known6 .ensures ∙ rw (c .before .match .keys6)
 
 returns-7 : tie.Need-returns-7
 unfolding decoded
-returns-7 c = rw (c .match .keys7)
+returns-7 c = c .known7 .ensures ∙ rw (c .before .match .keys7)
 
 returns-8 : tie.Need-returns-8
 unfolding decoded
-returns-8 c = rw (c .match .keys8)
+returns-8 c = c .known8 .ensures ∙ rw (c .before .match .keys8)
 
 returns-9 : tie.Need-returns-9
 unfolding decoded
-returns-9 c = rw (c .match .keys9)
+returns-9 c = c .known9 .ensures ∙ rw (c .before .match .keys9)
 
 returns-10 : tie.Need-returns-10
 unfolding decoded
-returns-10 c = rw (c .match .keys10)
+returns-10 c = c .known10 .ensures ∙ rw (c .before .match .keys10)
 
 returns-11 : tie.Need-returns-11
 unfolding decoded
-returns-11 c = rw (c .match .keys11)
+returns-11 c = c .known11 .ensures ∙ rw (c .before .match .keys11)
 
 returns-12 : tie.Need-returns-12
 unfolding decoded
@@ -84,6 +119,17 @@ pub decode-spec : {M : Type 1} → statement M
 decode-spec =
     tie.close
     (tie.spec
+    known-requires
+    known-requires-2
+    known-requires-3
+    known-requires-4
+    known-requires-5
+    known-requires-6
+    known-requires-7
+    known-requires-8
+    known-requires-9
+    known-requires-10
+    known-requires-11
     returns
     returns-2
     returns-3

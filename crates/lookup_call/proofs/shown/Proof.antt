@@ -1,4 +1,4 @@
--- `lookup_call::shown` meets its contract: what it returns computes to the definition.
+-- `lookup_call::shown` meets its contract: each arm is the definition at that constructor.
 -- Assumes nothing.
 use borrow.Author.Needs.{needs}
 use Rattle.lookup_call.proofs.shown.Statement.{statement}

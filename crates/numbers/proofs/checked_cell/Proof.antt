@@ -5,8 +5,8 @@ use borrow.Author.Needs.{needs}
 use Rattle.numbers.proofs.checked_cell.Statement.{statement}
 use Rattle.numbers.proofs.checked_cell.Tie as tie
 
-cast-t4 : tie.Need-cast-t4
-cast-t4 c = search needs
+cast-t5 : tie.Need-cast-t5
+cast-t5 c = search needs
 
 returns : tie.Need-returns
 returns c = rw (lt-ltb _ _ (c .if1 .taken))
@@ -15,4 +15,4 @@ returns-2 : tie.Need-returns-2
 returns-2 c = rw (le-ltb _ _ (c .if1 .left))
 
 pub checked-cell-spec : {M : Type 1} → statement M
-checked-cell-spec = tie.close (tie.spec cast-t4 returns returns-2)
+checked-cell-spec = tie.close (tie.spec cast-t5 returns returns-2)

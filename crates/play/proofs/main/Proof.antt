@@ -1,30 +1,28 @@
--- `play::main` meets its contract: the loop is the definition, taken from the place it has reached.
+-- `play::main` meets its contract: it is safe and ends; the buffers and the matrix keep their lengths.
 -- Assumes nothing.
-use mathlib.Core.Path.{_≡_, _∙_, sym}
+use mathlib.Core.Path.{_≡_}
 use borrow.Author.Needs.{needs}
-use native.Mathlib.Omega.{arith}
 use lib.ListN.{length}
 use Rattle.play.proofs.main.Statement.{statement}
 use Rattle.play.proofs.main.Tie as tie
 
 abbrev Inv-loop : tie.InvT-loop
-Inv-loop buf₀ out₀ eras₀ state₀ turns₀ buf out eras state turns =
-    (length buf ≡ 65536) × (length out ≡ 65536) × (length eras ≡ 8)
+Inv-loop buf₀ out₀ eras₀ played₀ turns₀ buf out eras played turns = (length buf ≡ 16384) × (length out ≡ 172032) × (length eras ≡ 8)
 
 abbrev μ-loop : tie.MeasureT-loop
-μ-loop buf₀ out₀ eras₀ state₀ turns₀ buf out eras state turns = turns
+μ-loop buf₀ out₀ eras₀ played₀ turns₀ buf out eras played turns = turns
 
-large-buffer-requires : tie.Need-large-buffer-requires Inv-loop μ-loop
-large-buffer-requires c κs = search needs
+chunk-requires : tie.Need-chunk-requires Inv-loop μ-loop
+chunk-requires c κs = search needs
 
-large-buffer-requires-2 : tie.Need-large-buffer-requires-2 Inv-loop μ-loop
-large-buffer-requires-2 c κs = search needs
+room-requires : tie.Need-room-requires Inv-loop μ-loop
+room-requires c κs = search needs
 
 fresh-eras-requires : tie.Need-fresh-eras-requires Inv-loop μ-loop
 fresh-eras-requires c κs = search needs
 
-fresh-state-requires : tie.Need-fresh-state-requires Inv-loop μ-loop
-fresh-state-requires c κs = search needs
+first-requires : tie.Need-first-requires Inv-loop μ-loop
+first-requires c κs = search needs
 
 loop-holds : tie.Need-loop-holds Inv-loop μ-loop
 loop-holds c = search needs
@@ -41,26 +39,26 @@ read-full-requires c κs = search needs
 array-share-prefix-buf : tie.Need-array-share-prefix-buf Inv-loop μ-loop
 array-share-prefix-buf c = search needs
 
-slice-aggregate-play-buffer : tie.Need-slice-aggregate-play-buffer Inv-loop μ-loop
-slice-aggregate-play-buffer c = search needs
+slice-aggregate-turn : tie.Need-slice-aggregate-turn Inv-loop μ-loop
+slice-aggregate-turn c = search needs
 
-slice-aggregate-play-buffer-2 : tie.Need-slice-aggregate-play-buffer-2 Inv-loop μ-loop
-slice-aggregate-play-buffer-2 c = search needs
+slice-aggregate-turn-2 : tie.Need-slice-aggregate-turn-2 Inv-loop μ-loop
+slice-aggregate-turn-2 c = search needs
 
-slice-aggregate-play-buffer-3 : tie.Need-slice-aggregate-play-buffer-3 Inv-loop μ-loop
-slice-aggregate-play-buffer-3 c = search needs
+slice-aggregate-turn-3 : tie.Need-slice-aggregate-turn-3 Inv-loop μ-loop
+slice-aggregate-turn-3 c = search needs
 
-play-buffer-requires : tie.Need-play-buffer-requires Inv-loop μ-loop
-play-buffer-requires c κs = search needs
+turn-requires : tie.Need-turn-requires Inv-loop μ-loop
+turn-requires c κs = search needs
+
+slice-aggregate-write-first : tie.Need-slice-aggregate-write-first Inv-loop μ-loop
+slice-aggregate-write-first c = search needs
+
+write-first-requires : tie.Need-write-first-requires Inv-loop μ-loop
+write-first-requires c κs = search needs
 
 returns : tie.Need-returns Inv-loop μ-loop
 returns c = search needs
-
-slice-aggregate-flushed-for-end : tie.Need-slice-aggregate-flushed-for-end Inv-loop μ-loop
-slice-aggregate-flushed-for-end c = search needs
-
-flushed-for-end-requires : tie.Need-flushed-for-end-requires Inv-loop μ-loop
-flushed-for-end-requires c κs = search needs
 
 array-share-prefix-buf-2 : tie.Need-array-share-prefix-buf-2 Inv-loop μ-loop
 array-share-prefix-buf-2 c = search needs
@@ -92,22 +90,22 @@ main-spec =
     (tie.spec
     Inv-loop
     μ-loop
-    large-buffer-requires
-    large-buffer-requires-2
+    chunk-requires
+    room-requires
     fresh-eras-requires
-    fresh-state-requires
+    first-requires
     loop-holds
     sub-turns
     slice-aggregate-read-full
     read-full-requires
     array-share-prefix-buf
-    slice-aggregate-play-buffer
-    slice-aggregate-play-buffer-2
-    slice-aggregate-play-buffer-3
-    play-buffer-requires
+    slice-aggregate-turn
+    slice-aggregate-turn-2
+    slice-aggregate-turn-3
+    turn-requires
+    slice-aggregate-write-first
+    write-first-requires
     returns
-    slice-aggregate-flushed-for-end
-    flushed-for-end-requires
     array-share-prefix-buf-2
     slice-aggregate-finish
     slice-aggregate-finish-2

@@ -1,41 +1,48 @@
--- `step_calls::step` meets its contract: at each `return` the checks that led there say which was the first not to pass, or that all passed.
+-- `step_calls::step` meets its contract: at each `return` the checks that led there say which was the first not to pass.
 -- Assumes nothing.
+use Rattle.numbers.proofs.Called.{was-true, was-false}
 use mathlib.Core.Path.{sym, _∙_}
-use Rattle.numbers.proofs.Checked.{client-known, client-large}
 use borrow.Author.Needs.{needs}
 use Rattle.step_calls.proofs.step.Statement.{statement}
 use Rattle.step_calls.proofs.step.Tie as tie
 
-checked-requires : tie.Need-checked-requires
-checked-requires c κs = search needs
-
-enum-known-me : tie.Need-enum-known-me
-enum-known-me c = search needs
-
-enum-told : tie.Need-enum-told
-enum-told c = search needs
+stands-requires : tie.Need-stands-requires
+stands-requires c κs = search needs
 
 refused-requires : tie.Need-refused-requires
 refused-requires c κs = search needs
 
 returns : tie.Need-returns
-returns c = c .refused .ensures ∙ rw (client-large (c .before .before .before .before .before .args .c) (sym (c .before .before .before .checked .ensures) ∙ c .before .enum-told .given .1))
+returns c = c .refused .ensures ∙ rw (was-false (c .before .before .stands .ensures) (c .before .if1 .taken))
 
-step-known-requires : tie.Need-step-known-requires
-step-known-requires c κs = search needs
+is-idle-requires : tie.Need-is-idle-requires
+is-idle-requires c κs = search needs
+
+refused-requires-2 : tie.Need-refused-requires-2
+refused-requires-2 c κs = search needs
 
 returns-2 : tie.Need-returns-2
-returns-2 c = let p = client-known (c .before .before .before .before .before .before .args .c) _ (sym (c .before .before .before .before .checked .ensures) ∙ c .before .before .me .given .1) in
-    c .step-known .ensures ∙ rw (← (p .same), p .passed)
+returns-2 c = c .refused2 .ensures ∙ rw (was-true (c .before .before .before .before .before .stands .ensures) (c .before .before .before .before .if1 .left), sym (c .before .before .is-idle .ensures) ∙ c .before .if2 .taken)
+
+step-requires : tie.Need-step-requires
+step-requires c κs = search needs
+
+of-client-requires : tie.Need-of-client-requires
+of-client-requires c κs = search needs
+
+returns-3 : tie.Need-returns-3
+returns-3 c = c .of-client .ensures ∙ rw (was-true (c .before .before .before .before .before .before .stands .ensures) (c .before .before .before .before .before .if1 .left), sym (c .before .before .before .is-idle .ensures) ∙ c .before .before .if2 .left, c .before .step .ensures)
 
 pub step-spec : {M : Type 1} → statement M
 step-spec =
     tie.close
     (tie.spec
-    checked-requires
-    enum-known-me
-    enum-told
+    stands-requires
     refused-requires
     returns
-    step-known-requires
-    returns-2)
+    is-idle-requires
+    refused-requires-2
+    returns-2
+    step-requires
+    of-client-requires
+    returns-3)

@@ -1,8 +1,8 @@
--- `trace::play_end` meets its contract: what it returns computes to the definition.
+-- `trace::play_end` meets its contract: where there is room it puts the line of a cut record, and the slots' after it.
 -- Assumes nothing.
 use native.Mathlib.Omega.{arith}
-use Rattle.trace.proofs.Filling.{put-then, put-length}
-use Rattle.trace.proofs.Slots.{ending, no-ending}
+use denote.Ref.{now}
+use Rattle.trace.proofs.Slots.{cut-most, ending, no-ending}
 use borrow.Author.Needs.{needs}
 use Rattle.trace.proofs.play_end.Statement.{statement}
 use Rattle.trace.proofs.play_end.Tie as tie
@@ -20,16 +20,16 @@ put-cut-requires : tie.Need-put-cut-requires
 put-cut-requires c κs = search needs
 
 put-slots-requires : tie.Need-put-slots-requires
-put-slots-requires c κs = search needs
+put-slots-requires c κs =
+    let a = c .before .before .before .before .before .before .before .before .before .before .args in
+    let m = cut-most (a .place) (now (a .rest)) in
+    omega (arith, c .before .before .before .put-cut .ensures .ends)
 
 same-length : tie.Need-same-length
 same-length c = search needs
 
 returns-3 : tie.Need-returns-3
-returns-3 c = let p = c .before .before .before .before .before .before .put-cut .ensures in
-    let q = c .before .before .put-slots .ensures in
-    let l = put-length (p .0) (omega arith) in
-    ending (put-then (p .0) (q .0) (omega arith)) (omega arith) (omega arith)
+returns-3 c = ending (c .before .before .before .before .before .before .put-cut .ensures) (c .before .before .put-slots .ensures) (omega arith)
 
 pub play-end-spec : {M : Type 1} → statement M
 play-end-spec =

@@ -35,7 +35,7 @@ with-standing-requires : tie.Need-with-standing-requires
 with-standing-requires c κs = search needs
 
 returns : tie.Need-returns
-returns c = search needs
+returns c = rw (c .enum-told .given .1)
 
 returns-2 : tie.Need-returns-2
 returns-2 c = rw (c .before .before .store .given .1) (c .with-header .ensures)
@@ -47,7 +47,7 @@ returns-4 : tie.Need-returns-4
 returns-4 c = rw (c .before .before .store3 .given .1) (c .with-log .ensures)
 
 returns-5 : tie.Need-returns-5
-returns-5 c = search needs
+returns-5 c = rw (c .enum-told2 .given .1)
 
 returns-6 : tie.Need-returns-6
 returns-6 c = rw (c .before .before .store4 .given .1) (c .with-standing .ensures)

@@ -5,8 +5,11 @@ use borrow.Author.Needs.{needs}
 use Rattle.rescue.proofs.conditions.from_row.Statement.{statement}
 use Rattle.rescue.proofs.conditions.from_row.Tie as tie
 
-cast-t5 : tie.Need-cast-t5
-cast-t5 c = search needs
+cast-if1 : tie.Need-cast-if1
+cast-if1 c = search needs
+
+cast-t6 : tie.Need-cast-t6
+cast-t6 c = search needs
 
 returns : tie.Need-returns
 returns c = rw (lt-ltb _ _ (c .if1 .taken))
@@ -15,4 +18,4 @@ returns-2 : tie.Need-returns-2
 returns-2 c = rw (le-ltb _ _ (c .if1 .left))
 
 pub from-row-spec : {M : Type 1} → statement M
-from-row-spec = tie.close (tie.spec cast-t5 returns returns-2)
+from-row-spec = tie.close (tie.spec cast-if1 cast-t6 returns returns-2)

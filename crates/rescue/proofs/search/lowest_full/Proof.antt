@@ -4,6 +4,7 @@ use borrow.Author.Needs.{needs}
 use native.Mathlib.Omega.{arith}
 use Prim.Native.Nat.{_≤_, _-_}
 use mathlib.Core.Path.{_≡_, refl, sym, _∙_}
+use Rattle.numbers.specs.Sizes.{cells}
 use Rattle.rescue.specs.Search.{lowestFull}
 use Rattle.rescue.proofs.Lowest.{from, passes, finds, ends}
 use denote.Ref.{now}
@@ -11,13 +12,16 @@ use Rattle.rescue.proofs.search.lowest_full.Statement.{statement}
 use Rattle.rescue.proofs.search.lowest_full.Tie as tie
 
 abbrev Inv-loop : tie.InvT-loop
-Inv-loop bytes c k₀ k = (k ≤ 16) × (lowestFull bytes (c .0) ≡ from bytes (c .0) k)
+Inv-loop bytes c k₀ k = (k ≤ cells) × (lowestFull bytes (c .0) ≡ from bytes (c .0) k)
 
 abbrev μ-loop : tie.MeasureT-loop
-μ-loop bytes c k₀ k = 16 - k
+μ-loop bytes c k₀ k = cells - k
 
 loop-holds : tie.Need-loop-holds Inv-loop μ-loop
 loop-holds c = (omega arith, refl)
+
+cast-if1 : tie.Need-cast-if1 Inv-loop μ-loop
+cast-if1 c = search needs
 
 cell-at-requires : tie.Need-cell-at-requires Inv-loop μ-loop
 cell-at-requires c κs = search needs
@@ -53,6 +57,7 @@ lowest-full-spec =
     Inv-loop
     μ-loop
     loop-holds
+    cast-if1
     cell-at-requires
     enum-known-held
     enum-told

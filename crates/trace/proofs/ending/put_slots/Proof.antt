@@ -1,10 +1,10 @@
--- `trace::ending::put_slots` meets its contract: the loop is the definition, taken from the place it has reached.
+-- `trace::ending::put_slots` meets its contract: the loop is the definition, taken from the slot it has reached.
 -- Assumes nothing.
 use Prim.Native.Nat.{_≤_, _-_}
 use native.Mathlib.Omega.{arith}
 use borrow.Author.Needs.{needs}
 use lib.ListN.{length}
-use Rattle.trace.proofs.Slots.{Below, none-below, one-below, all-below}
+use Rattle.trace.proofs.Slots.{Below, none-below, below-most, one-below, all-below}
 use Rattle.trace.proofs.ending.put_slots.Statement.{statement}
 use Rattle.trace.proofs.ending.put_slots.Tie as tie
 
@@ -24,7 +24,10 @@ shared-slice-read-put-slot : tie.Need-shared-slice-read-put-slot Inv-loop μ-loo
 shared-slice-read-put-slot c = search needs
 
 put-slot-requires : tie.Need-put-slot-requires Inv-loop μ-loop
-put-slot-requires c κs = omega (arith, c .before .before .before .loop .inv .1 .within, c .before .before .before .loop .inv .1 .size, c .before .before .before .before .before .before .pre)
+put-slot-requires c κs =
+    let i = c .before .before .before .loop in
+    let m = below-most (i .inv .1) (i .inv .0) in
+    omega (arith, i .inv .1 .size, c .before .before .before .before .before .before .pre)
 
 add-slot : tie.Need-add-slot Inv-loop μ-loop
 add-slot c = search needs
@@ -33,13 +36,13 @@ loop-less : tie.Need-loop-less Inv-loop μ-loop
 loop-less c = search needs
 
 loop-again : tie.Need-loop-again Inv-loop μ-loop
-loop-again c = (omega arith, one-below (c .before .before .before .before .before .before .loop .inv .1) (c .before .before .before .before .before .loop-test .taken) (c .before .before .before .before .before .before .before .before .before .pre) (c .before .before .put-slot .ensures .0) (c .before .before .put-slot .ensures .1))
+loop-again c = (omega arith, one-below (c .before .before .before .before .before .before .loop .inv .1) (c .before .before .before .before .before .loop-test .taken) (c .before .before .before .before .before .before .before .before .before .pre) (c .before .before .put-slot .ensures))
 
 same-length : tie.Need-same-length Inv-loop μ-loop
 same-length c = c .before .loop .inv .1 .size
 
 returns : tie.Need-returns Inv-loop μ-loop
-returns c = (all-below (c .before .loop .inv .1) (c .loop-test .left), omega (arith, c .before .loop .inv .1 .within, c .before .loop .inv .0, c .before .before .before .before .pre))
+returns c = all-below (c .before .loop .inv .1) (c .loop-test .left)
 
 pub put-slots-spec : {M : Type 1} → statement M
 put-slots-spec =

@@ -1,0 +1,3 @@
+pub mod Spelling
+pub mod Filling
+pub mod Widths
