@@ -2,6 +2,8 @@
 // client. The era matrix stands beside the block and not in it. Nothing here knows the calls or the stages.
 //
 // Every read is total: past the last word it finds what a fresh block holds there.
+#![tactic(auto)]
+
 pub mod matrix;
 pub mod store;
 
@@ -17,7 +19,7 @@ pub const ALL_CELLS: usize = CLIENTS * CELLS;
 pub const EMPTY: u8 = 255;
 
 // What an operation does to its slot's count.
-#[derive(Drop)]
+#[derive(Clone, Copy)]
 pub enum Kind {
     Lease,
     Attach,
@@ -25,7 +27,7 @@ pub enum Kind {
 }
 
 // An operation: what it does, for which cell, to which slot.
-#[derive(Drop)]
+#[derive(Clone, Copy)]
 pub struct Operation {
     pub kind: Kind,
     pub cell: u8,
@@ -33,7 +35,7 @@ pub struct Operation {
 }
 
 // A log that was written: the operation, the own era it was logged at and the count it had read.
-#[derive(Drop)]
+#[derive(Clone, Copy)]
 pub struct Entry {
     pub operation: Operation,
     pub era: Era,
@@ -41,20 +43,20 @@ pub struct Entry {
 }
 
 // A client's log.
-#[derive(Drop)]
+#[derive(Clone, Copy)]
 pub enum Log {
     Nothing,
     Wrote(Entry),
 }
 
 // One word of the logs.
-#[derive(Drop)]
+#[derive(Clone, Copy)]
 pub struct LogWord {
     pub log: Log,
 }
 
 // A client's standing.
-#[derive(Drop)]
+#[derive(Clone, Copy)]
 pub enum Standing {
     Absent,
     Running,
@@ -63,20 +65,20 @@ pub enum Standing {
 }
 
 // One word of the standings.
-#[derive(Drop)]
+#[derive(Clone, Copy)]
 pub struct StandingWord {
     pub standing: Standing,
 }
 
 // What a cell holds. In the block it is a byte: the slot's number, or 255.
-#[derive(Drop)]
+#[derive(Clone, Copy)]
 pub enum Cell {
     Empty,
     Holds(Slot),
 }
 
 // The shared words but for the era matrix. The cells of client c are the sixteen from 16 times c on.
-#[derive(Drop)]
+#[derive(Clone, Copy)]
 pub struct Block {
     pub headers: [u64; SLOTS],
     pub cells: [u8; ALL_CELLS],
@@ -85,6 +87,7 @@ pub struct Block {
 }
 
 // The block before the first call.
+#[tactic(auto, unfolding(crate::specs::Block::fresh_block))]
 pub fn fresh_block() -> Block
     ensures { result ≡ fresh_block }
 {

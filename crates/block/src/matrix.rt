@@ -12,6 +12,7 @@ pub type Row = [u32; CLIENTS];
 pub type Matrix = [Row; CLIENTS];
 
 // The matrix before the first call.
+#[tactic(auto, unfolding(crate::specs::Matrix::fresh_eras))]
 pub fn fresh_eras() -> Matrix
     ensures { result ≡ fresh_eras }
 {

@@ -9,7 +9,7 @@ use numbers::{CELLS, CLIENTS, Client, Era, SLOTS, Slot};
 
 // What a step writes: nothing, a slot's header, a client's cell, its log, the era of one client in the row of
 // another (in its own row: the own era), or a client's standing.
-#[derive(Drop)]
+#[derive(Clone, Copy)]
 pub enum Store {
     Nothing,
     Header(Slot, u64),

@@ -12,7 +12,7 @@ use rescue::{Rescued, RescuerRecord, RescuerStep};
 use stages::{ClientRecord, Stage, Stepped};
 
 // What is asked of a client, with any numbers where it names a cell and a slot.
-#[derive(Drop)]
+#[derive(Clone, Copy)]
 pub enum Act {
     Join,
     Leave,
@@ -28,21 +28,21 @@ pub enum Act {
 }
 
 // A call: a client, by any number, and what is asked of it.
-#[derive(Drop)]
+#[derive(Clone, Copy)]
 pub struct Call {
     pub client: u64,
     pub act: Act,
 }
 
 // The private words of one client: its own record and its rescuer's.
-#[derive(Drop)]
+#[derive(Clone, Copy)]
 pub struct Records {
     pub client: ClientRecord,
     pub rescuer: RescuerRecord,
 }
 
 // What a call answers, the records that it hands back and the one shared word that it writes.
-#[derive(Drop)]
+#[derive(Clone, Copy)]
 pub struct Outcome {
     pub answer: Answer,
     pub records: Records,

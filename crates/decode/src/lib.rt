@@ -6,7 +6,7 @@ ghost use Rattle.decode.specs.Decode.{decoded};
 use calls::{Act, Call};
 
 // What a record asks for: a call that is known, or none.
-#[derive(Drop)]
+#[derive(Clone, Copy)]
 pub enum Decoded {
     Known(Call),
     Unknown,

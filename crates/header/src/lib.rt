@@ -1,12 +1,14 @@
 // A slot's header: one 64-bit word that holds the era and the client of the last swap, and the count. Only this
 // crate knows which bits are whose; the others go by the laws in proofs/Laws.antt.
+#![tactic(auto, unfolding(crate::specs::Header::packed, crate::specs::Header::unpacked, crate::specs::Header::spare_in))]
+
 ghost use Rattle.std.specs.Prelude.{◌≡◌};
 ghost use Rattle.header.specs.Header.{packed, unpacked, is_free, spare_in};
 
 use numbers::{Client, Era};
 
 // What a header holds.
-#[derive(Drop)]
+#[derive(Clone, Copy)]
 pub struct Fields {
     pub era: Era,
     pub count: u32,

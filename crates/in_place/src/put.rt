@@ -9,14 +9,14 @@ use block::{Cell, Log, LogWord, Standing, StandingWord};
 use numbers::{CELLS, CLIENTS, Client, Era, Slot};
 
 // The log that a store writes, and where; past the last client's where it writes none.
-#[derive(Drop)]
+#[derive(Clone, Copy)]
 pub struct LogWrite {
     pub at: usize,
     pub word: LogWord,
 }
 
 // The standing that a store writes, and where; past the last client's where it writes none.
-#[derive(Drop)]
+#[derive(Clone, Copy)]
 pub struct StandingWrite {
     pub at: usize,
     pub word: StandingWord,

@@ -4,7 +4,7 @@ ghost use Rattle.numbers.specs.Answers.{number_of};
 
 use crate::Slot;
 
-#[derive(Drop)]
+#[derive(Clone, Copy)]
 pub enum Answer {
     Accepted,
     NoSuchClient,

@@ -1,6 +1,8 @@
 // The numbers of the rules. An era, a client number and a slot number are a type each, so that no code can take
 // one for another; a caller's number becomes a client or a slot where it has passed its check. The answers stand in
 // `answers`.
+#![tactic(auto)]
+
 pub mod answers;
 
 ghost use Rattle.std.specs.Prelude.{◌≡◌};
@@ -22,33 +24,33 @@ pub const ERA_LIMIT: u32 = 4294967216;
 pub const COUNT_LIMIT: u32 = 128;
 
 // A client's era, 32 bits.
-#[derive(Drop)]
+#[derive(Clone, Copy)]
 pub struct Era(pub u32);
 
 // A client's number.
-#[derive(Drop)]
+#[derive(Clone, Copy)]
 pub struct Client(pub u8);
 
 // A slot's number.
-#[derive(Drop)]
+#[derive(Clone, Copy)]
 pub struct Slot(pub u8);
 
 // A number taken for a client's: one of the eight, or too large.
-#[derive(Drop)]
+#[derive(Clone, Copy)]
 pub enum ClientCheck {
     Known(Client),
     TooLarge,
 }
 
 // A number taken for a slot's: one of the sixty-four, or too large.
-#[derive(Drop)]
+#[derive(Clone, Copy)]
 pub enum SlotCheck {
     Known(Slot),
     TooLarge,
 }
 
 // A number taken for a cell's: one of the sixteen, or too large.
-#[derive(Drop)]
+#[derive(Clone, Copy)]
 pub enum CellCheck {
     Known(u8),
     TooLarge,

@@ -1,5 +1,7 @@
 // The rescue of a failed client, one step a call. The rescuer acts as that client, with its number, era, row and log,
 // and is given nothing but shared words and the record that its own last step handed back.
+#![tactic(auto)]
+
 pub mod conditions;
 pub mod search;
 
@@ -18,7 +20,7 @@ use stages::{ClientRecord, Stage, Stepped, written};
 
 // The step that a rescue has reached, with what it keeps for it: the log that it read, the client whose row comes
 // next in condition 2, the release that it has opened.
-#[derive(Drop)]
+#[derive(Clone, Copy)]
 pub enum RescuerStep {
     ReadLog,
     Condition1(Entry),
@@ -30,13 +32,13 @@ pub enum RescuerStep {
 }
 
 // What a rescuer keeps to itself between two steps.
-#[derive(Drop)]
+#[derive(Clone, Copy)]
 pub struct RescuerRecord {
     pub step: RescuerStep,
 }
 
 // What one rescue step answers, the record it hands back and the one word that it writes.
-#[derive(Drop)]
+#[derive(Clone, Copy)]
 pub struct Rescued {
     pub answer: Answer,
     pub next: RescuerRecord,

@@ -6,7 +6,7 @@ use block::{Cell, cell_at};
 use numbers::{CELLS, Client, Slot};
 
 // What the search finds.
-#[derive(Drop)]
+#[derive(Clone, Copy)]
 pub enum Found {
     Nothing,
     At(u8, Slot),

@@ -1,6 +1,8 @@
 // A client's working record and the six stages of an operation, one a step. Client and rescuer share them: a rescuer
 // takes them with the number of the client that it acts for. A stage is a function of the few words that it reads;
 // what it writes is the store that it answers with.
+#![tactic(auto)]
+
 pub mod perform;
 
 ghost use Rattle.std.specs.Prelude.{◌≡◌};
@@ -14,7 +16,7 @@ use numbers::Client;
 use numbers::answers::Answer;
 
 // The stage that an operation has reached, with the operation and, past the load, the header that it keeps.
-#[derive(Drop)]
+#[derive(Clone, Copy)]
 pub enum Stage {
     Idle,
     Load(Operation),
@@ -26,27 +28,27 @@ pub enum Stage {
 }
 
 // What a client keeps to itself between two steps.
-#[derive(Drop)]
+#[derive(Clone, Copy)]
 pub struct ClientRecord {
     pub stage: Stage,
 }
 
 // The operation that is under way.
-#[derive(Drop)]
+#[derive(Clone, Copy)]
 pub enum Open {
     Nothing,
     Doing(Operation),
 }
 
 // The header that is kept.
-#[derive(Drop)]
+#[derive(Clone, Copy)]
 pub enum Kept {
     Nothing,
     Word(u64),
 }
 
 // What one step answers, the record it hands back and the one word that it writes.
-#[derive(Drop)]
+#[derive(Clone, Copy)]
 pub struct Stepped {
     pub answer: Answer,
     pub next: ClientRecord,

@@ -28,7 +28,7 @@ pub fn nothing_under_way() -> Stepped
 }
 
 // What a load asks of the header that it finds: nothing more, or the answer that ends the operation.
-#[derive(Drop)]
+#[derive(Clone, Copy)]
 pub enum Asked {
     Nothing,
     Refuses(Answer),

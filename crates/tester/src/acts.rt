@@ -12,7 +12,7 @@ pub(crate) const FAIL: u64 = 7;
 pub(crate) const RESCUE_STEP: u64 = 9;
 
 // A call's record: which act, of which client, with which cell and slot; 0 where it names none.
-#[derive(Drop)]
+#[derive(Clone, Copy)]
 pub(crate) struct Record {
     pub(crate) act: u64,
     pub(crate) client: u64,

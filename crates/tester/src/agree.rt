@@ -5,7 +5,7 @@ use calls::Act;
 use header::unpack;
 
 // How a world agrees: wholly, or where it first differs.
-#[derive(Drop)]
+#[derive(Clone, Copy)]
 pub(crate) enum Agreement {
     Whole,
     Count,

@@ -2,7 +2,7 @@
 // only, so going through all choices is going through all placements.
 
 // The picks so far, out of how many, and how many of them the run was told to make. After those it takes the first.
-#[derive(Drop)]
+#[derive(Clone, Copy)]
 pub(crate) struct Choices {
     picks: [u8; 96],
     widths: [u8; 96],

@@ -8,7 +8,7 @@ use rescue::{RescuerRecord, RescuerStep};
 use stages::{ClientRecord, Stage};
 
 // The step, the row that condition 2 reads, and the operation that it is a step of (kind 0: none).
-#[derive(Drop)]
+#[derive(Clone, Copy)]
 pub(crate) struct Doing {
     pub(crate) step: u64,
     pub(crate) row: u64,

@@ -1,7 +1,7 @@
 // How the runs of a sweep ended: runs that ended alike are counted together.
 
 // Each ending by its number, how many runs had it, and the least and the most rescue steps among them.
-#[derive(Drop)]
+#[derive(Clone, Copy)]
 pub(crate) struct Endings {
     pub(crate) keys: [u64; 64],
     pub(crate) runs: [u64; 64],

@@ -7,7 +7,7 @@ use calls::{Call, Outcome, Records};
 
 // Each line's slot, 255 where there is none; its phase, 0 swapped, 1 written, 2 its release is open; and for each
 // client that failed, the own era that the end of its rescue must leave.
-#[derive(Drop)]
+#[derive(Clone, Copy)]
 pub(crate) struct Ledger {
     pub(crate) slots: [u8; 128],
     pub(crate) phases: [u8; 128],

@@ -10,7 +10,7 @@ use decode::{Decoded, decode};
 
 // What is swept: the victim's opening call and the other host's, how many rescuers may be killed, in how many parts the
 // other host may play, and whether own eras start at 0.
-#[derive(Drop)]
+#[derive(Clone, Copy)]
 pub(crate) struct Plan {
     pub(crate) opening: Call,
     pub(crate) victim: u64,
@@ -24,7 +24,7 @@ pub(crate) struct Plan {
 }
 
 // Who makes the next call.
-#[derive(Drop)]
+#[derive(Clone, Copy)]
 pub(crate) enum Actor {
     SetUp,
     Victim,
@@ -36,7 +36,7 @@ pub(crate) enum Actor {
 }
 
 // How far a run has come. An operation is 0 before its opening, 1 under way, 2 over.
-#[derive(Drop)]
+#[derive(Clone, Copy)]
 pub(crate) struct Progress {
     pub(crate) set_up: usize,
     victim: u64,

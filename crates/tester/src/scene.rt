@@ -10,13 +10,13 @@ use numbers::Client;
 use world::{fresh_records, records_after, records_at};
 
 // A row of the era matrix.
-#[derive(Drop)]
+#[derive(Clone, Copy)]
 pub(crate) struct EraRow {
     entries: Row,
 }
 
 // The block, the matrix by rows, every client's records, and the ledger of the calls so far.
-#[derive(Drop)]
+#[derive(Clone, Copy)]
 pub(crate) struct Scene {
     pub(crate) block: Block,
     rows: [EraRow; 8],

@@ -16,7 +16,7 @@ use numbers::Slot;
 
 // A run: where it stands, its last call, and how it differs from the ledger: 0 not, 1 in a count, 2 in a look up, 3 at
 // the end of the rescue.
-#[derive(Drop)]
+#[derive(Clone, Copy)]
 struct Run {
     scene: Scene,
     progress: Progress,
@@ -27,7 +27,7 @@ struct Run {
 }
 
 // The first run that differs in one way: whether there is one, its choices and its section.
-#[derive(Drop)]
+#[derive(Clone, Copy)]
 struct Kept {
     found: bool,
     choices: Choices,
@@ -36,7 +36,7 @@ struct Kept {
 }
 
 // What is counted of a run that is over: its ending, its rescue steps and calls, how it differs, and its choices.
-#[derive(Drop)]
+#[derive(Clone, Copy)]
 struct Ended {
     ending: u64,
     rescue_steps: u64,
@@ -46,7 +46,7 @@ struct Ended {
 }
 
 // What a section's runs came to.
-#[derive(Drop)]
+#[derive(Clone, Copy)]
 struct Sum {
     endings: Endings,
     runs: u64,

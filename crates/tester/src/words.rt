@@ -8,7 +8,7 @@ use numbers::{Client, Slot};
 
 // A word's value: a header's era, count and client; a cell's slot; a log's kind, era, cell, slot and count; an era; a
 // standing. What a word does not have is 0.
-#[derive(Drop)]
+#[derive(Clone, Copy)]
 pub(crate) struct Value {
     pub(crate) first: u64,
     pub(crate) second: u64,
@@ -18,7 +18,7 @@ pub(crate) struct Value {
 }
 
 // Which word: 0 none, 1 a slot's header, 2 a client's cell, 3 its log, 4 an entry of a row, 5 a standing.
-#[derive(Drop)]
+#[derive(Clone, Copy)]
 pub(crate) struct Word {
     pub(crate) sort: u8,
     pub(crate) whose: u8,

@@ -18,7 +18,7 @@ use text::{LINE, SLOT_LINE};
 pub const RECORD: usize = 4;
 
 // What a turn leaves: the block and the records, how many bytes it read, where its text ends, and the next record's place.
-#[derive(Drop)]
+#[derive(Clone, Copy)]
 pub struct Played {
     pub block: Block,
     pub records: [Records; CLIENTS],
