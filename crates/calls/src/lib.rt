@@ -1,6 +1,8 @@
 // What a call is: a client and what is asked of it, the records that it is given and hands back, its answer and the one
 // word that it writes. specs/ has the eleven calls, their checks in order and what each does; the crates above have
 // their code.
+#![tactic(auto)]
+
 ghost use Rattle.std.specs.Prelude.{◌≡◌};
 ghost use Rattle.calls.specs.Checks.{unchanged, refused, standing_code, same_standing};
 ghost use Rattle.calls.specs.Calls.{nothing, accepted, of_client, of_rescuer};

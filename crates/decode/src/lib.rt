@@ -1,4 +1,6 @@
 // The four bytes of a record as a call.
+#![tactic(auto)]
+
 ghost use Rattle.std.specs.Prelude.{◌≡◌};
 ghost use Rattle.calls.specs.Named.{of};
 ghost use Rattle.decode.specs.Decode.{decoded};

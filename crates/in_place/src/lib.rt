@@ -1,6 +1,8 @@
 // The player's way: the same calls on words that are lent, and their stores put in place. By value a call copies the
 // block and the matrix; measured, the player would fall behind the second program (docs/DECISIONS.md, 35). Each function
 // here has the contract of the one by value: `machine::plain_call`, `step_calls`, and the records' `step`.
+#![tactic(auto)]
+
 pub mod put;
 mod steps;
 

@@ -1,5 +1,7 @@
 // Whether what a call is given is within the limits. A block and its records may hold anything; each call asks this
 // first, and answers 11 where it does not hold.
+#![tactic(auto)]
+
 mod block_words;
 mod record_words;
 

@@ -1,4 +1,6 @@
 // The call that only reads: which slot a cell shows.
+#![tactic(auto)]
+
 ghost use Rattle.std.specs.Prelude.{◌≡◌};
 ghost use Rattle.stages.specs.Stages.{releases_cell};
 ghost use Rattle.calls.specs.Calls.{shown, looked, look_up_of};

@@ -1,5 +1,7 @@
 // One call of a block: any call, with any numbers, on any words. `checked_call` answers 11 first where the words are
 // beyond their limits; `plain_call` is the same call for words that are known to be within them.
+#![tactic(auto)]
+
 ghost use Rattle.std.specs.Prelude.{◌≡◌};
 ghost use Rattle.calls.specs.Calls.{asks, effect, plain_call, checked_call};
 ghost use Rattle.calls.specs.Checks.{after_checks};

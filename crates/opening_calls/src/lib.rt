@@ -1,4 +1,6 @@
 // The calls that open an operation, at its load: lease, attach, release. Each is a function of the words that it reads.
+#![tactic(auto)]
+
 ghost use Rattle.std.specs.Prelude.{◌≡◌};
 ghost use Rattle.calls.specs.Checks.{is_empty};
 ghost use Rattle.calls.specs.Calls.{opened, open_of, release_of};

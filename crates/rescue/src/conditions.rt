@@ -23,6 +23,7 @@ fn swap_stands(c: Client, own: Era, header: u64) -> bool
 }
 
 // 2. Condition 1: the logged slot's header is the client's own, at its own era.
+#[tactic(auto, unfolding(crate::specs::Rescue::first_condition))]
 pub fn first(c: Client, entry: Entry, own: Era, header: u64) -> Rescued
     ensures { result ≡ first_condition c entry own header }
 {
@@ -34,6 +35,7 @@ pub fn first(c: Client, entry: Entry, own: Era, header: u64) -> Rescued
 }
 
 // 3. Condition 2, at client `j`: its row has seen the client's own era.
+#[tactic(auto, unfolding(crate::specs::Rescue::second_condition))]
 pub fn second(c: Client, entry: Entry, j: Client, own: Era, seen: Era) -> Rescued
     ensures { result ≡ second_condition c entry j own seen }
 {

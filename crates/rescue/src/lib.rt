@@ -47,6 +47,7 @@ pub struct Rescued {
 
 impl RescuerRecord {
     // One step of the rescue of client `c`, given the block and beside it the matrix.
+    #[tactic(auto, unfolding(crate::specs::Rescue::rescue_of, stages::specs::Stages::step_of))]
     pub fn step(self, c: Client, block: Block, eras: Matrix) -> Rescued
         ensures { result ≡ rescue_of c block.headers block.cells (log_at block.logs c.0) eras self.step }
     {
@@ -108,6 +109,7 @@ pub fn read_log(log: Log) -> Rescued
 }
 
 // 4. Cell: writes what the logged operation would have written.
+#[tactic(auto, unfolding(crate::specs::Rescue::write_cell))]
 pub fn write_cell(c: Client, entry: Entry) -> Rescued
     ensures { result ≡ write_cell c entry }
 {
@@ -120,6 +122,7 @@ pub fn write_cell(c: Client, entry: Entry) -> Rescued
 }
 
 // 5. Raises the client's own era.
+#[tactic(auto, unfolding(crate::specs::Rescue::raise_era))]
 pub fn raise_era(c: Client, own: Era) -> Rescued
     ensures { result ≡ raise_era c own }
 {

@@ -57,6 +57,7 @@ pub struct Stepped {
 
 impl ClientRecord {
     // One step of client `me`, given the block and beside it the matrix. With nothing under way it is refused.
+    #[tactic(auto, unfolding(crate::specs::Stages::step_of))]
     pub fn step(self, me: Client, block: Block, eras: Matrix) -> Stepped
         ensures { result ≡ step_of me block.headers eras self.stage }
     {
@@ -145,6 +146,7 @@ pub fn is_release(kind: Kind) -> bool
 }
 
 // What the cell stage of `op` writes: the slot, or nothing for a release.
+#[tactic(auto, unfolding(crate::specs::Stages::written))]
 pub fn written(op: Operation) -> Cell
     ensures { result ≡ written op }
 {

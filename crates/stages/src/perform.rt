@@ -58,6 +58,7 @@ fn asks(kind: Kind, header: u64) -> Asked
 }
 
 // 1. Load: keeps the slot's header, or ends the operation with what it is refused with.
+#[tactic(auto, unfolding(crate::specs::Stages::load_stage))]
 pub fn load(op: Operation, header: u64) -> Stepped
     ensures { result ≡ load_stage op header }
 {
@@ -70,6 +71,7 @@ pub fn load(op: Operation, header: u64) -> Stepped
 }
 
 // 2. Note: raises what the own row has seen of the header's client to the header's era.
+#[tactic(auto, unfolding(crate::specs::Stages::note_stage))]
 pub fn note(me: Client, op: Operation, kept: u64, seen: Era) -> Stepped
     ensures { result ≡ note_stage me op kept seen }
 {
@@ -88,6 +90,7 @@ pub fn note(me: Client, op: Operation, kept: u64, seen: Era) -> Stepped
 }
 
 // 3. Log: writes the operation, the own era and the count read.
+#[tactic(auto, unfolding(crate::specs::Stages::log_stage))]
 pub fn log_entry(me: Client, op: Operation, kept: u64, own: Era) -> Stepped
     ensures { result ≡ log_stage me op kept own }
 {
@@ -104,6 +107,7 @@ pub fn log_entry(me: Client, op: Operation, kept: u64, own: Era) -> Stepped
 }
 
 // 4. Swap: writes the slot's header where it still is the whole kept word, else goes back to the load.
+#[tactic(auto, using(header::proofs::Laws::unpacked_narrow), unfolding(crate::specs::Stages::swap_stage))]
 pub fn swap(me: Client, op: Operation, kept: u64, own: Era, header: u64) -> Stepped
     ensures { result ≡ swap_stage me op kept own header }
 {
@@ -138,6 +142,7 @@ fn count_after(kind: Kind, count: u32) -> u32
 }
 
 // 5. Cell: writes the slot, or empties the cell for a release.
+#[tactic(auto, unfolding(crate::specs::Stages::cell_stage))]
 pub fn write_cell(me: Client, op: Operation, kept: u64) -> Stepped
     ensures { result ≡ cell_stage me op kept }
 {
@@ -149,6 +154,7 @@ pub fn write_cell(me: Client, op: Operation, kept: u64) -> Stepped
 }
 
 // 6. Era: raises the own era; the operation is finished.
+#[tactic(auto, unfolding(crate::specs::Stages::era_stage))]
 pub fn raise_era(me: Client, own: Era) -> Stepped
     ensures { result ≡ era_stage me own }
 {

@@ -1,5 +1,7 @@
 // The calls that change a client's standing and touch no other word: join, fail, take over, rescuer fails, and leave.
 // Each is a function of the words that it reads.
+#![tactic(auto)]
+
 ghost use Rattle.std.specs.Prelude.{◌≡◌};
 ghost use Rattle.calls.specs.Checks.{found_nothing};
 ghost use Rattle.calls.specs.Calls.{stand_of, leave_of};

@@ -1,5 +1,7 @@
 // The calls that take a step: of a running client's operation, or of the rescue of a failed one. The block and the
 // matrix beside it go into the step of the record.
+#![tactic(auto)]
+
 ghost use Rattle.std.specs.Prelude.{◌≡◌};
 ghost use Rattle.calls.specs.Calls.{step_call_of, rescue_call_of};
 

@@ -1,5 +1,7 @@
 // Playing a file of calls: whole records from an input slice into an output slice, and what stands at the end. The
 // block and the records of the clients are the caller's, from one turn to the next.
+#![tactic(auto)]
+
 mod ending;
 mod record;
 

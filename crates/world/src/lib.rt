@@ -1,5 +1,7 @@
 // The world of a history: the eight clients' records beside the block and the matrix. Each call is given those that
 // were last handed back.
+#![tactic(auto)]
+
 ghost use Rattle.std.specs.Prelude.{◌≡◌};
 ghost use Rattle.world.specs.World.{records_at, records_after, fresh_records};
 
