@@ -1,5 +1,7 @@
 // Lines of text, written straight into the output. The library's `io::decimal` does not serve here: it writes into twenty
 // bytes of its own, from where each number had to be copied to its place, and divides twice for each digit.
+#![tactic(auto)]
+
 ghost use Rattle.std.specs.Prelude.{◌≡◌, [], ◌+◌, ◌≤◌, ◌<◌, leb, length};
 ghost use Rattle.text.specs.Text.{spelled, decimal, line, slot_word, slot_line, number_size, line_size, slot_line_size, filled, Put, PutIn};
 
