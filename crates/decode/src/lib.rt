@@ -25,6 +25,7 @@ fn known(client: u8, act: Act) -> Decoded
 }
 
 // The call that a record's four bytes name.
+#[tactic(auto, unfolding(crate::specs::Decode::decoded))]
 pub fn decode(call: u8, client: u8, cell: u8, slot: u8) -> Decoded
     ensures { result ≡ decoded call client cell slot }
 {

@@ -39,6 +39,7 @@ fn shown(held: Cell) -> Answer
 }
 
 // What a look up of cell `k`, which holds `held`, answers.
+#[tactic(auto, unfolding(calls::specs::Calls::looked))]
 fn looked(client: ClientRecord, held: Cell, k: u8) -> Answer
     ensures { result ≡ looked client.stage held k }
 {
