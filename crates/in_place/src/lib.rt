@@ -22,6 +22,7 @@ use standing_calls::{fail, join, leave, rescuer_fails, take_over};
 use steps::{rescue_step, step};
 
 // What is asked of a client that there is.
+#[tactic(auto, unfolding(calls::specs::Calls::asks, calls::specs::Calls::effect))]
 fn acted<'a>(
     me: Client,
     act: Act,
@@ -54,6 +55,7 @@ fn acted<'a>(
 }
 
 // A call of words that are known to be within their limits: check 1, and then what is asked of the client.
+#[tactic(auto, unfolding(calls::specs::Calls::plain_call))]
 pub fn call<'a>(
     call: Call,
     headers: &'a [u64],

@@ -20,6 +20,7 @@ use rescue::{
 use stages::{Stage, Stepped, perform};
 
 // One stage, as `ClientRecord::step` performs it.
+#[tactic(auto, unfolding(stages::specs::Stages::step_of))]
 fn one_stage<'a>(me: Client, headers: &'a [u64], eras: &'a [Row], stage: Stage) -> Stepped
     ensures { result ≡ step_of me headers.now eras.now stage }
 {
@@ -65,6 +66,7 @@ pub(crate) fn step<'a>(
 }
 
 // One step of a rescue, as `RescuerRecord::step` takes it.
+#[tactic(auto, unfolding(rescue::specs::Rescue::rescue_of, stages::specs::Stages::step_of))]
 fn one_step<'a>(
     c: Client,
     headers: &'a [u64],
