@@ -11,6 +11,7 @@ use header::{spare, unpack};
 use numbers::{CELLS, CLIENTS, COUNT_LIMIT, ERA_LIMIT, SLOTS};
 
 // Whether a header is within its limits.
+#[tactic(auto, unfolding(limits::specs::Limits::header_within))]
 pub(crate) fn header_within(word: u64) -> bool
     ensures { result ≡ header_within word }
 {
@@ -76,6 +77,7 @@ pub(crate) fn operation_within(op: Operation) -> bool
 }
 
 // Whether a written log is within its limits.
+#[tactic(auto, unfolding(limits::specs::Limits::entry_within))]
 pub(crate) fn entry_within(entry: Entry) -> bool
     ensures { result ≡ entry_within entry }
 {
@@ -116,6 +118,7 @@ pub(crate) fn logs_within(logs: [LogWord; CLIENTS]) -> bool
 }
 
 // Whether row `i` of the matrix is within its limits.
+#[tactic(auto, unfolding(limits::specs::Limits::row_within))]
 fn row_within(i: usize, row: Row) -> bool
     ensures { result ≡ row_within i row }
 {

@@ -16,6 +16,7 @@ use rescue::RescuerRecord;
 use stages::ClientRecord;
 
 // Whether the block, the matrix and the two records of client `c` are within their limits.
+#[tactic(auto, unfolding(limits::specs::Limits::within))]
 pub fn within(
     c: u64,
     block: Block,
@@ -39,6 +40,7 @@ pub fn within(
 }
 
 // Whether every header, cell and log of a block is.
+#[tactic(auto, unfolding(limits::specs::Limits::block_within))]
 fn block_within(block: Block) -> bool
     ensures { result ≡ block_within block }
 {

@@ -29,6 +29,7 @@ fn kept_within(kept: Kept) -> bool
 }
 
 // Whether a working record is within its limits.
+#[tactic(auto, unfolding(limits::specs::Limits::stage_within))]
 pub(crate) fn stage_within(record: ClientRecord) -> bool
     ensures { result ≡ stage_within «record».stage }
 {
@@ -64,6 +65,7 @@ fn release_within(record: ClientRecord) -> bool
 }
 
 // Whether a step of the rescuer of client `c` is within its limits.
+#[tactic(auto, unfolding(limits::specs::Limits::rescue_within))]
 pub(crate) fn rescue_within(c: u64, step: RescuerStep) -> bool
     ensures { result ≡ rescue_within c step }
 {

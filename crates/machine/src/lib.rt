@@ -18,6 +18,7 @@ use standing_calls::{fail, join, leave, rescuer_fails, take_over};
 use step_calls::{rescue_step, step};
 
 // What is asked of a client that there is.
+#[tactic(auto, unfolding(calls::specs::Calls::asks, calls::specs::Calls::effect))]
 fn acted(me: Client, act: Act, block: Block, eras: Matrix, records: Records) -> Outcome
     ensures { result ≡ after_checks (asks act me.0 block eras records) records (effect act me.0 block eras records) }
 {
@@ -55,6 +56,7 @@ fn acted(me: Client, act: Act, block: Block, eras: Matrix, records: Records) -> 
 }
 
 // A call of words that are known to be within their limits: check 1, and then what is asked of the client.
+#[tactic(auto, unfolding(calls::specs::Calls::plain_call))]
 pub fn plain_call(call: Call, block: Block, eras: Matrix, records: Records) -> Outcome
     ensures { result ≡ plain_call call block eras records }
 {
@@ -66,6 +68,7 @@ pub fn plain_call(call: Call, block: Block, eras: Matrix, records: Records) -> O
 }
 
 // A call of any block, any matrix and any records: 11 where they are beyond their limits, before every other check.
+#[tactic(auto, unfolding(calls::specs::Calls::checked_call))]
 pub fn checked_call(call: Call, block: Block, eras: Matrix, records: Records) -> Outcome
     ensures { result ≡ checked_call call block eras records }
 {
