@@ -1,6 +1,6 @@
 -- The one theorem of the situations: every row of the table comes about. It is proved by playing the rows: each
 -- definition of the rules that a row plays is named on the `unfolding` line. Assumes nothing.
-use mathlib.Core.Path.{refl}
+use Rattle.std.proofs.Common.{refl}
 use Rattle.header.specs.Header.{packed, unpacked, spare_in}
 use Rattle.block.specs.Block.{fresh_block}
 use Rattle.block.specs.Matrix.{fresh_eras}

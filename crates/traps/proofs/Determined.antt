@@ -1,11 +1,9 @@
 -- R8.1: a statement of the form "the result is this definition of the arguments" allows one outcome, whatever the
 -- arguments, those of refused calls among them. Every public function's statement has this form and no condition:
--- `ensures { λ r. ⌜ r ≡ .. ⌝ }` and no `requires`; one that writes into what it is lent says as much of each slice at
+-- `ensures { result ≡ .. }` and no `requires`; one that writes into what it is lent says as much of each slice at
 -- its exit. There is no exception, and no such statement is empty. What a call writes is the store of its outcome.
 -- Assumes nothing.
-use Prim.Native.Nat.{ℕ}
-use mathlib.Core.List.{List}
-use mathlib.Core.Path.{◌≡◌, sym, ap, ◌∙◌}
+use Rattle.std.proofs.Common.{◌≡◌, ℕ, List, sym, ap, ◌∙◌}
 use Rattle.block.specs.declared.Block.{Block}
 use Rattle.block.specs.Store.{block_after, eras_after}
 use Rattle.calls.specs.declared.Outcome.{Outcome}

@@ -1,11 +1,8 @@
 -- What shuts each impostor of R8.2 out. The first four are held to one call of situation A (R6.A): there they answer or
 -- write something else than demand 2 says, so the statement of the public call is not theirs. The fifth is held to its
 -- own ledger. Assumes nothing.
-use Prim.Native.Nat.{ℕ}
+use Rattle.std.proofs.Common.{◌≡◌, ℕ, take, sym, ap, arith}
 use mathlib.Core.Bool.{false≢true}
-use mathlib.Core.Path.{◌≡◌, sym, ap}
-use native.Mathlib.Omega.{arith}
-use lib.ListN.{take}
 use Rattle.numbers.specs.Answers.{number_of}
 use Rattle.header.specs.Header.{packed, unpacked, spare_in}
 use Rattle.block.specs.Block.{fresh_block}

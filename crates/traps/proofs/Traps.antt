@@ -1,11 +1,7 @@
 -- Every trap of part 7 is one: its history is played on the machine that falls into it and on the machine of the rules.
 -- Of the first it is shown that a part of demand 3 fails; of the second that it holds, by the theorem of demand 3.
 -- Assumes nothing.
-use Prim.Native.Nat.{ℕ}
-use mathlib.Core.Bool.{true}
-use mathlib.Core.Path.{◌≡◌, refl, ap}
-use native.Mathlib.Omega.{arith}
-use lib.ListN.{take}
+use Rattle.std.proofs.Common.{◌≡◌, ℕ, true, take, refl, ap, arith}
 use Rattle.numbers.specs.Answers.{number_of}
 use Rattle.header.specs.Header.{packed, unpacked, spare_in}
 use Rattle.block.specs.Block.{fresh_block}

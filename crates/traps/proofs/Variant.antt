@@ -1,6 +1,5 @@
 -- With no rule broken the machine is that of the rules: put together from its parts, it computes. Assumes nothing.
-use mathlib.Core.List.{List}
-use mathlib.Core.Path.{◌≡◌, refl}
+use Rattle.std.proofs.Common.{◌≡◌, List, refl}
 use Rattle.calls.specs.declared.Call.{Call}
 use Rattle.calls.specs.Calls.{plain_call, checked_call}
 use Rattle.world.specs.World.{rules}
