@@ -6,10 +6,11 @@ use Rattle.rescue.proofs.search.lowest_full.Goals as goal
 
 pub loop-k-preserved : goal.loop-k-preserved
 loop-k-preserved c =
-    let h : c.loop-k.k < cells = c.if-k-ge-CELLS.false in
-    (omega arith,
+    let h : c.loop-k.k < cells = c.if-k-ge-CELLS.false in (
+      omega arith,
       c.loop-k.invariant.1
-      ∙ passes c.args.cells.now c.args.c.0 c.loop-k.k h (sym c.cell_at-held.ensures ∙ c.in_default.is))
+          ∙ passes c.args.cells.now c.args.c.0 c.loop-k.k h (sym c.cell_at-held.ensures ∙ c.in_default.is),
+    )
 
 pub returns-then-k-ge-CELLS : goal.returns-then-k-ge-CELLS
 returns-then-k-ge-CELLS c =
