@@ -30,6 +30,7 @@ fn put_slot(out: &mut [u8], at: usize, slot: usize, header: u64) -> usize
 }
 
 // The lines of the slots in use, in their order. Answers where they end.
+#[tactic(auto, using(crate::proofs::Slots::below_most, crate::proofs::Slots::all_below))]
 pub(crate) fn put_slots<'a>(out: &'a mut [u8], at: usize, headers: &'a [u64]) -> usize
     requires { at + slot_line_size * length headers.now ≤ length out.old }
     ensures { Put out.old at (slots_text 0 headers.now) out.new result }

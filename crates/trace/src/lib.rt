@@ -30,6 +30,7 @@ pub struct Played {
 }
 
 // How many records a turn plays.
+#[tactic(auto, unfolding(crate::specs::Play::turn_count))]
 fn turn_count<'a>(place: u64, input: &'a [u8], out: &'a [u8]) -> usize
     ensures { result ≡ turn_count place (length input.now) (length out.now) }
 {
@@ -100,6 +101,7 @@ pub fn play_records<'a>(
 
 // What is printed after the last whole record: the line of a cut one, where bytes of it are left, and the slots in
 // use. It is written where the output has room for the longest that it could be. Answers how many bytes it is.
+#[tactic(auto, using(crate::proofs::Slots::cut_most, crate::proofs::Slots::no_ending))]
 pub fn play_end<'a>(rest: &'a [u8], place: u64, headers: &'a [u64], out: &'a mut [u8]) -> usize
     ensures { Ending headers.now place rest.now out.old result out.new }
 {

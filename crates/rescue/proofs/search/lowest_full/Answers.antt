@@ -1,5 +1,5 @@
 -- The cell looked at is passed, found or past the last.
-use Rattle.std.proofs.Common.{◌≡◌, ◌∙◌, ◌<◌, sym, arith}
+use Rattle.std.proofs.Common.{◌∙◌, ◌<◌, sym, arith}
 use Rattle.numbers.specs.Sizes.{cells}
 use Rattle.rescue.proofs.Lowest.{passes, finds, ends}
 use Rattle.rescue.proofs.search.lowest_full.Goals as goal

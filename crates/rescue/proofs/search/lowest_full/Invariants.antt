@@ -1,5 +1,5 @@
 -- The search so far: no cell passed over holds a slot, so it is the search from the cell reached.
-use Rattle.std.proofs.Common.{◌≡◌, ℕ, ◌-◌, ◌≤◌}
+use Rattle.std.proofs.Common.{◌≡◌, ◌-◌, ◌≤◌}
 use Rattle.numbers.specs.Sizes.{cells}
 use Rattle.rescue.specs.Search.{lowest_full}
 use Rattle.rescue.proofs.Lowest.{from}

@@ -1,0 +1,10 @@
+-- The lines of the slots below `slot` are put.
+use Rattle.std.proofs.Common.{◌-◌, ◌≤◌, length}
+use Rattle.trace.proofs.Slots.{Below}
+use Rattle.trace.proofs.ending.put_slots.Given as goal
+
+abbrev pub invariant-loop-slot : goal.invariant-loop-slot
+invariant-loop-slot l = record { in_range : l.slot ≤ length l.headers; below : Below l.headers l.fn.out l.at l.out l.slot l.end }
+
+abbrev pub decreases-loop-slot : goal.decreases-loop-slot
+decreases-loop-slot l = length l.headers - l.slot
