@@ -1,6 +1,6 @@
 -- What holds of every world of a history, over functions: the header of each slot, and each client's words (its row of
 -- the matrix, its cells, its log, its standing and its records) with a ghost, the operation whose swap it has won and
--- whose era is not yet raised. `visOf c` is c's own era, and one more where that is some operation: no era of c that
+-- whose era is not yet raised. `vis_of c` is c's own era, and one more where that is some operation: no era of c that
 -- anybody else holds reaches it. Assumes nothing.
 use Prim.Native.Nat.{ℕ, ◌+◌, ◌<◌, ◌≤◌}
 use mathlib.Core.Bool.{Bool, true, false}

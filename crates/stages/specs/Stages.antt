@@ -1,6 +1,6 @@
 -- One operation, six stages (part 3 of the rules). A stage is given the words that it reads and says what the step
 -- answers, the stage that comes next and the one word that it writes. Above this file a stage is asked for its
--- operation, its kept header and its number (`open_in`, `keptIn`, `place_of`), and an operation for `isRelease`; the
+-- operation, its kept header and its number (`open_in`, `kept_in`, `place_of`), and an operation for `is_release`; the
 -- cases of a step are those of proofs/Cases.antt.
 use Rattle.std.specs.Prelude.{ℕ, ◌+◌, ◌-◌, Bool, true, false, cond, List, ltb, eqb}
 use Rattle.numbers.specs.declared.Client.{Client}
