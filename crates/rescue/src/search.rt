@@ -13,6 +13,7 @@ pub enum Found {
 }
 
 // The lowest full cell of client `c`, and the slot that it holds. The search stops at the first one.
+#[tactic(auto, using(crate::proofs::Lowest::passes, crate::proofs::Lowest::ends))]
 pub fn lowest_full(cells: &[u8], c: Client) -> Found
     ensures { result ≡ lowest_full cells.now c.0 }
 {
