@@ -1,10 +1,15 @@
 // Plays the records of standard input from a fresh block: a line for each on standard output, and at the end the slots
 // in use. Each turn reads a chunk, plays it and writes its text, so a file of any length takes the same memory. The
-// output has room for the longest line of every record of a chunk, so a turn plays all of it.
+// output has room for the longest line of every record of a chunk, so a turn plays all of it. A read or a write that
+// fails ends the program with its error.
+#![tactic(auto)]
+
+ghost use Rattle.std.specs.Io.{ReadsAtMost};
 ghost use Rattle.std.specs.Prelude.{◌≡◌, length};
 
 use block::matrix::Row;
-use libc::{STDIN_FILENO, STDOUT_FILENO};
+use std::io;
+use std::io::Read;
 use text::LINE;
 use trace::{Played, RECORD, play_end, play_records};
 
@@ -29,6 +34,21 @@ fn room() -> [u8; ROOM]
     [0; ROOM]
 }
 
+// Fills the buffer from the input, which may come in pieces, up to the input's end. How many bytes it took.
+fn read_full(input: &mut impl Read, buf: &mut [u8]) -> io::Result<usize>
+    ensures { ReadsAtMost result buf.new }
+{
+    let mut done = 0;
+    while done < buf.len() {
+        let n = input.read(&mut buf[done..])?;
+        if n == 0 {
+            break;
+        }
+        done += n;
+    }
+    Ok(done)
+}
+
 // Before the first record.
 fn first() -> Played {
     Played {
@@ -48,42 +68,36 @@ fn turn<'a>(input: &'a [u8], out: &'a mut [u8], eras: &'a mut [Row], before: Pla
 }
 
 // Writes the first `n` bytes of the output.
-fn write_first(out: &[u8], n: usize) -> bool {
-    if out.len() < n {
-        return false;
-    }
-    io::write_all(STDOUT_FILENO, &out[..n])
+fn write_first(rt: &impl Print, out: &[u8], n: usize) -> io::Result<()> {
+    let end = n.min(out.len());
+    rt.write_all(&out[..end])
 }
 
 // Writes the line of a cut record, where the last turn left bytes of its chunk, and the slots in use.
-fn finish<'a>(input: &'a [u8], out: &'a mut [u8], last: Played) {
+fn finish(rt: &impl Print, input: &[u8], out: &mut [u8], last: Played) -> io::Result<()> {
     let from = last.read;
     if input.len() < from {
-        return;
+        return Ok(());
     }
     let block = last.block;
     let headers = block.headers;
     let end = play_end(&input[from..], last.place, &headers, &mut *out);
-    write_first(&*out, end);
+    write_first(rt, &*out, end)
 }
 
-fn main() {
+fn main(rt: HostRuntime) -> io::Result<()> {
+    let mut input = rt.stdin();
     let mut buf = chunk();
     let mut out = room();
     let mut eras = block::matrix::fresh_eras();
     let mut played = first();
-    let mut turns = u64::MAX;
-    while 0 < turns {
-        turns -= 1;
-        let n = io::read_full(STDIN_FILENO, &mut buf);
-        let next = turn(&buf[..n], &mut out, &mut eras, played);
-        played = next;
-        if !write_first(&out, played.end) {
-            return;
-        }
+    for _ in 0..u64::MAX {
+        let n = read_full(&mut input, &mut buf)?;
+        played = turn(&buf[..n], &mut out, &mut eras, played);
+        write_first(&rt, &out, played.end)?;
         if n < CHUNK {
-            finish(&buf[..n], &mut out, played);
-            return;
+            return finish(&rt, &buf[..n], &mut out, played);
         }
     }
+    Ok(())
 }

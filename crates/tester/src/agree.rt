@@ -27,24 +27,20 @@ fn counted(counts: [u8; 64], line: u8) -> [u8; 64] {
 // How many lines name each slot.
 pub(crate) fn tally(lines: [u8; 128]) -> [u8; 64] {
     let mut counts = [0u8; 64];
-    let mut i: usize = 0;
-    while i < 128 {
-        let more = counted(counts, lines[i]);
+    for line in lines {
+        let more = counted(counts, line);
         counts = more;
-        i += 1;
     }
     counts
 }
 
 // (a) Each slot's count is the number of lines that name it.
 fn counts_agree(headers: [u64; 64], lines: [u8; 64]) -> bool {
-    let mut slot: usize = 0;
-    while slot < 64 {
+    for slot in 0..64 {
         let fields = unpack(headers[slot]);
         if fields.count != lines[slot] as u32 {
             return false;
         }
-        slot += 1;
     }
     true
 }
@@ -75,14 +71,12 @@ fn shows_line(at: usize, scene: Scene) -> bool {
 fn look_ups_agree(scene: Scene) -> bool {
     let cells = scene.block.cells;
     let lines = scene.ledger.slots;
-    let mut at: usize = 0;
-    while at < 128 {
+    for at in 0..128 {
         if cells[at] != 255 || lines[at] != 255 {
             if !shows_line(at, scene) {
                 return false;
             }
         }
-        at += 1;
     }
     true
 }
@@ -92,12 +86,10 @@ fn all_empty(words: [u8; 128], client: usize) -> bool {
     if 8 <= client {
         return true;
     }
-    let mut k: usize = 0;
-    while k < 16 {
+    for k in 0..16 {
         if words[client * 16 + k] != 255 {
             return false;
         }
-        k += 1;
     }
     true
 }

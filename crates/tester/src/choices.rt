@@ -59,15 +59,12 @@ impl Choices {
 
     // How many picks are kept for the next run: up to the last that was not the last of its choice.
     fn kept(self) -> usize {
-        let mut at = self.made;
-        while 0 < at {
-            let last = at - 1;
+        for last in (0..self.made).rev() {
             if last < 96 {
                 if self.picks[last] % 255 + 1 < self.widths[last] {
-                    return at;
+                    return last + 1;
                 }
             }
-            at = last;
         }
         0
     }

@@ -26,12 +26,10 @@ impl Endings {
     fn place(self, key: u64) -> usize {
         let keys = self.keys;
         let used = self.used;
-        let mut at: usize = 0;
-        while at < 64 {
+        for at in 0..64 {
             if used <= at || keys[at] == key {
                 return at;
             }
-            at += 1;
         }
         63
     }

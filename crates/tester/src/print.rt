@@ -1,28 +1,27 @@
-// Numbers on standard output, for the views that put them into words and pictures.
+// Numbers on standard output, for the views that put them into words and pictures. A write that fails ends the program.
 use crate::words::Value;
-use libc::STDOUT_FILENO;
+use std::io;
 
 // A word that says what the line is about.
-pub(crate) fn heading(text: &[u8]) {
-    io::write_all(STDOUT_FILENO, text);
+pub(crate) fn heading(rt: &impl Print, text: &[u8]) -> io::Result<()> {
+    rt.write_all(text)
 }
 
 // A space and a number.
-pub(crate) fn number(n: u64) {
-    io::write_all(STDOUT_FILENO, b" ");
-    io::print_decimal(STDOUT_FILENO, n);
+pub(crate) fn number(rt: &impl Print, n: u64) -> io::Result<()> {
+    print!(rt; " {n}")
 }
 
 // The five numbers of a word's value.
-pub(crate) fn value(v: Value) {
-    number(v.first);
-    number(v.second);
-    number(v.third);
-    number(v.fourth);
-    number(v.fifth);
+pub(crate) fn value(rt: &impl Print, v: Value) -> io::Result<()> {
+    number(rt, v.first)?;
+    number(rt, v.second)?;
+    number(rt, v.third)?;
+    number(rt, v.fourth)?;
+    number(rt, v.fifth)
 }
 
-// The line's end. Whether standard output still takes it.
-pub(crate) fn line_end() -> bool {
-    io::write_all(STDOUT_FILENO, b"\n")
+// The line's end.
+pub(crate) fn line_end(rt: &impl Print) -> io::Result<()> {
+    rt.write_all(b"\n")
 }

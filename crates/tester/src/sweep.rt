@@ -5,14 +5,16 @@ use crate::agree::{Agreement, held_to};
 use crate::choices::{Choices, first_choices};
 use crate::doing::performed;
 use crate::endings::{Endings, no_endings};
+use crate::input::read_full;
 use crate::placement::{Plan, Progress, at_start, known_call, one_more};
 use crate::print;
 use crate::scene::{Scene, fresh_scene, given_scene};
 use block::header_at;
 use calls::{Act, Call};
 use header::unpack;
-use libc::{STDERR_FILENO, STDIN_FILENO};
 use numbers::Slot;
+use std::io;
+use std::io::Read;
 
 // A run: where it stands, its last call, and how it differs from the ledger: 0 not, 1 in a count, 2 in a look up, 3 at
 // the end of the rescue.
@@ -213,14 +215,11 @@ impl Sum {
     }
 }
 
-// Says on standard error how far the sweep is, now and then.
-fn tell_progress(runs: u64) {
-    if runs % 65536 != 0 {
-        return;
+// Says on standard error how far the sweep is, now and then; a sweep that is not heard goes on.
+fn tell_progress(rt: &impl Eprint, runs: u64) {
+    if runs % 65536 == 0 {
+        let _ = eprintln!(rt; "sweep: {runs} runs of this section so far");
     }
-    io::write_all(STDERR_FILENO, b"sweep: ");
-    io::print_decimal(STDERR_FILENO, runs);
-    io::write_all(STDERR_FILENO, b" runs of this section so far\n");
 }
 
 // The run that goes on from where a choice was made, with the next choice.
@@ -234,161 +233,157 @@ fn branched(before: Run, choices: Choices, made: usize) -> Run {
 
 // Every run of a section. Two runs share their calls up to the first choice that they make differently: the run before
 // each choice is kept, and the next run goes on from there.
-fn swept(plan: Plan, set_up: &[u8]) -> Sum {
+fn swept(rt: &impl Eprint, plan: Plan, set_up: &[u8]) -> Sum {
     let mut sum = no_runs();
     let mut run = run_from(plan, first_choices());
     let mut before = [run; 96];
-    let mut left = u64::MAX;
-    while 0 < left {
-        left -= 1;
+    for _ in 0..u64::MAX {
         if !run.over {
             let made = run.progress.choices.made;
             if made < 96 {
                 before[made] = run;
             }
-            let next = turn(run, plan, set_up);
-            run = next;
+            run = turn(run, plan, set_up);
             continue;
         }
-        let more = sum.counted(run, plan);
-        sum = more;
-        tell_progress(sum.runs);
+        sum = sum.counted(run, plan);
+        tell_progress(rt, sum.runs);
         let choices = run.progress.choices;
         let following = choices.following();
         let at = following.last_told();
         if 96 <= at {
             break;
         }
-        let branch = branched(before[at], following, at);
-        run = branch;
+        run = branched(before[at], following, at);
     }
     sum
 }
 
 // A section's line: how many rescuers may die, in how many parts the other host plays, runs, calls, runs that differ,
 // and whether a run was too long to be gone through.
-fn print_section(plan: Plan, sum: Sum) {
-    print::heading(b"section");
-    print::number(plan.kills);
-    print::number(plan.parts);
-    print::number(sum.runs);
-    print::number(sum.calls);
-    print::number(sum.differing);
-    print::number(if sum.cut { 1 } else { 0 });
-    print::line_end();
+fn print_section(rt: &impl Print, plan: Plan, sum: Sum) -> io::Result<()> {
+    print::heading(rt, b"section")?;
+    print::number(rt, plan.kills)?;
+    print::number(rt, plan.parts)?;
+    print::number(rt, sum.runs)?;
+    print::number(rt, sum.calls)?;
+    print::number(rt, sum.differing)?;
+    print::number(rt, if sum.cut { 1 } else { 0 })?;
+    print::line_end(rt)
 }
 
 // An ending's line: the victim's steps, whether it was completed, the count, the own era, runs, least and most steps.
-fn print_ending(key: u64, runs: u64, least: u64, most: u64) {
-    print::heading(b"ending");
-    print::number(key % 16);
-    print::number(key / 16 % 2);
-    print::number(key / 32 % 256);
-    print::number(key / 8192);
-    print::number(runs);
-    print::number(least);
-    print::number(most);
-    print::line_end();
+fn print_ending(rt: &impl Print, key: u64, runs: u64, least: u64, most: u64) -> io::Result<()> {
+    print::heading(rt, b"ending")?;
+    print::number(rt, key % 16)?;
+    print::number(rt, key / 16 % 2)?;
+    print::number(rt, key / 32 % 256)?;
+    print::number(rt, key / 8192)?;
+    print::number(rt, runs)?;
+    print::number(rt, least)?;
+    print::number(rt, most)?;
+    print::line_end(rt)
 }
 
 // The endings' lines.
-fn print_endings(endings: Endings) {
+fn print_endings(rt: &impl Print, endings: Endings) -> io::Result<()> {
     let used = endings.used;
-    let mut at: usize = 0;
-    while at < 64 {
+    for at in 0..64 {
         if used <= at {
-            return;
+            return Ok(());
         }
         print_ending(
+            rt,
             endings.keys[at],
             endings.runs[at],
             endings.least[at],
             endings.most[at],
-        );
-        at += 1;
+        )?;
     }
+    Ok(())
 }
 
 // A call as a record's four numbers.
-fn print_record(call: Call) {
-    print::heading(b"record");
+fn print_record(rt: &impl Print, call: Call) -> io::Result<()> {
+    print::heading(rt, b"record")?;
     let record = record_of(call);
-    print::number(record.act);
-    print::number(record.client);
-    print::number(record.cell);
-    print::number(record.slot);
-    print::line_end();
+    print::number(rt, record.act)?;
+    print::number(rt, record.client)?;
+    print::number(rt, record.cell)?;
+    print::number(rt, record.slot)?;
+    print::line_end(rt)
 }
 
 // The calls of a run, up to the one after which it differs.
-fn print_run(choices: Choices, plan: Plan, set_up: &[u8]) {
+fn print_run(rt: &impl Print, choices: Choices, plan: Plan, set_up: &[u8]) -> io::Result<()> {
     let mut run = run_from(plan, choices.again());
-    let mut left: u64 = 5000;
-    while 0 < left {
-        left -= 1;
-        let next = turn(run, plan, set_up);
-        run = next;
+    for _ in 0..5000 {
+        run = turn(run, plan, set_up);
         if run.over && run.differs == 0 {
-            return;
+            return Ok(());
         }
         let call = run.call;
-        print_record(call);
+        print_record(rt, call)?;
         if run.over {
-            return;
+            return Ok(());
         }
     }
+    Ok(())
 }
 
 // The first run that differs in one way, as a trace to replay.
-fn print_first(way: u64, kept: Kept, plan: Plan, set_up: &[u8]) {
+fn print_first(rt: &impl Print, way: u64, kept: Kept, plan: Plan, set_up: &[u8]) -> io::Result<()> {
     if !kept.found {
-        return;
+        return Ok(());
     }
     let mut section = plan;
     section.kills = kept.kills;
     section.parts = kept.parts;
     let choices = kept.choices;
-    print::heading(b"differs");
-    print::number(way);
-    print::number(kept.kills);
-    print::number(kept.parts);
-    print::line_end();
-    print_run(choices, section, set_up);
+    print::heading(rt, b"differs")?;
+    print::number(rt, way)?;
+    print::number(rt, kept.kills)?;
+    print::number(rt, kept.parts)?;
+    print::line_end(rt)?;
+    print_run(rt, choices, section, set_up)
 }
 
 // Sweeps a section and prints what came of it.
-fn sweep_section(plan: Plan, set_up: &[u8], kills: u64, parts: u64) {
+fn sweep_section(
+    rt: &(impl Print + Eprint),
+    plan: Plan,
+    set_up: &[u8],
+    kills: u64,
+    parts: u64,
+) -> io::Result<()> {
     let mut section = plan;
     section.kills = kills;
     section.parts = parts;
-    let sum = swept(section, set_up);
+    let sum = swept(rt, section, set_up);
     let endings = sum.endings;
     let firsts = sum.firsts;
-    print_section(section, sum);
-    print_endings(endings);
-    print_first(1, firsts[1], section, set_up);
-    print_first(2, firsts[2], section, set_up);
-    print_first(3, firsts[3], section, set_up);
+    print_section(rt, section, sum)?;
+    print_endings(rt, endings)?;
+    print_first(rt, 1, firsts[1], section, set_up)?;
+    print_first(rt, 2, firsts[2], section, set_up)?;
+    print_first(rt, 3, firsts[3], section, set_up)
 }
 
 // The world after the set-up.
 fn after_set_up(plan: Plan, set_up: &[u8]) -> Scene {
     let mut run = run_from(plan, first_choices());
-    let mut left = plan.set_ups;
-    while 0 < left {
-        left -= 1;
-        let next = turn(run, plan, set_up);
-        run = next;
+    for _ in 0..plan.set_ups {
+        run = turn(run, plan, set_up);
     }
     run.scene
 }
 
 // The line of an opening that is refused: 1 the victim's or 2 the other host's, and the answer.
-fn print_refused(whose: u64, answer: u64) {
-    print::heading(b"refused");
-    print::number(whose);
-    print::number(answer);
-    print::line_end();
+fn print_refused(rt: &impl Print, whose: u64, answer: u64) -> io::Result<()> {
+    print::heading(rt, b"refused")?;
+    print::number(rt, whose)?;
+    print::number(rt, answer)?;
+    print::line_end(rt)
 }
 
 // The slot of an opening; of a release, the slot in its cell.
@@ -401,48 +396,61 @@ fn slot_of(call: Call, scene: Scene) -> u8 {
 }
 
 // Every section: deaths alone, and then with the other host.
-fn sweep_sections(plan: Plan, set_up: &[u8], with_other: bool) {
-    sweep_section(plan, set_up, 0, 0);
-    sweep_section(plan, set_up, 1, 0);
-    sweep_section(plan, set_up, 2, 0);
+fn sweep_sections(
+    rt: &(impl Print + Eprint),
+    plan: Plan,
+    set_up: &[u8],
+    with_other: bool,
+) -> io::Result<()> {
+    sweep_section(rt, plan, set_up, 0, 0)?;
+    sweep_section(rt, plan, set_up, 1, 0)?;
+    sweep_section(rt, plan, set_up, 2, 0)?;
     if with_other {
-        sweep_section(plan, set_up, 0, 100);
-        sweep_section(plan, set_up, 1, 2);
-        sweep_section(plan, set_up, 2, 1);
+        sweep_section(rt, plan, set_up, 0, 100)?;
+        sweep_section(rt, plan, set_up, 1, 2)?;
+        sweep_section(rt, plan, set_up, 2, 1)?;
     }
+    Ok(())
 }
 
 // Sweeps what the records say, where the world after the set-up accepts both openings.
-fn sweep_plan(plan: Plan, set_up: &[u8], with_other: bool) {
+fn sweep_plan(
+    rt: &(impl Print + Eprint),
+    plan: Plan,
+    set_up: &[u8],
+    with_other: bool,
+) -> io::Result<()> {
     let scene = after_set_up(plan, set_up);
     let opening = plan.opening;
     let other = plan.other;
     let victim = scene.answer(opening);
     if victim != 0 {
-        print_refused(1, victim);
-        return;
+        return print_refused(rt, 1, victim);
     }
     let host = scene.answer(other);
     if with_other && host != 0 {
-        print_refused(2, host);
-        return;
+        return print_refused(rt, 2, host);
     }
     let mut full = plan;
     full.slot = slot_of(opening, scene);
-    sweep_sections(full, set_up, with_other);
+    sweep_sections(rt, full, set_up, with_other)
 }
 
 // Reads the victim's opening, the other host's (0: none) and the set-up from standard input, and sweeps. `trapped`: own
 // eras start at 0, as the trap has it, to see a sweep that differs.
-pub(crate) fn sweep(trapped: bool) {
-    let mut input = io::buffer();
-    let n = io::read_full(STDIN_FILENO, &mut input);
+pub(crate) fn sweep(
+    rt: &(impl Print + Eprint),
+    input: &mut impl Read,
+    trapped: bool,
+) -> io::Result<()> {
+    let mut bytes = [0u8; 4096];
+    let n = read_full(input, &mut bytes)?;
     if n < 8 {
-        return;
+        return Ok(());
     }
-    let opening = known_call(input[0], input[1], input[2], input[3]);
-    let other = known_call(input[4], input[5], input[6], input[7]);
-    let with_other = input[4] != 0;
+    let opening = known_call(bytes[0], bytes[1], bytes[2], bytes[3]);
+    let other = known_call(bytes[4], bytes[5], bytes[6], bytes[7]);
+    let with_other = bytes[4] != 0;
     let plan = Plan {
         opening,
         victim: opening.client,
@@ -454,5 +462,5 @@ pub(crate) fn sweep(trapped: bool) {
         parts: 0,
         trapped,
     };
-    sweep_plan(plan, &input[8..n], with_other);
+    sweep_plan(rt, plan, &bytes[8..n], with_other)
 }
