@@ -1,5 +1,5 @@
-// Lines of text, written straight into the output. The library's `io::decimal` does not serve here: it writes into twenty
-// bytes of its own, from where each number had to be copied to its place, and divides twice for each digit.
+// Lines of text, written straight into the output, a number's digits four at a time: no number is made in a buffer of its
+// own and copied to its place.
 #![tactic(auto)]
 
 ghost use Rattle.std.specs.Prelude.{◌≡◌, [], ◌+◌, ◌≤◌, ◌<◌, leb, length};
