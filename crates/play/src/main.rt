@@ -4,12 +4,11 @@
 // fails ends the program with its error.
 #![tactic(auto)]
 
-ghost use Rattle.std.specs.Io.{ReadsAtMost};
 ghost use Rattle.std.specs.Prelude.{◌≡◌, length};
 
 use block::matrix::Row;
+use input::read_full;
 use std::io;
-use std::io::Read;
 use text::LINE;
 use trace::{Played, RECORD, play_end, play_records};
 
@@ -32,21 +31,6 @@ fn room() -> [u8; ROOM]
     ensures { 172032 ≡ length result }
 {
     [0; ROOM]
-}
-
-// Fills the buffer from the input, which may come in pieces, up to the input's end. How many bytes it took.
-fn read_full(input: &mut impl Read, buf: &mut [u8]) -> io::Result<usize>
-    ensures { ReadsAtMost result buf.new }
-{
-    let mut done = 0;
-    while done < buf.len() {
-        let n = input.read(&mut buf[done..])?;
-        if n == 0 {
-            break;
-        }
-        done += n;
-    }
-    Ok(done)
 }
 
 // Before the first record.

@@ -8,7 +8,6 @@ mod agree;
 mod choices;
 mod doing;
 mod endings;
-mod input;
 mod ledger;
 mod placement;
 mod print;

@@ -3,7 +3,6 @@
 use crate::acts::{RESCUE_STEP, record_of};
 use crate::agree::tally;
 use crate::doing::{Doing, by_client, by_rescuer, performed};
-use crate::input::read_full;
 use crate::print;
 use crate::scene::{Scene, given_scene};
 use crate::words::{header_value, standing_of, value_at, word_of};
@@ -12,6 +11,7 @@ use block::store::{Store, block_after, eras_after};
 use block::{Block, fresh_block};
 use calls::{Call, Outcome, Records};
 use decode::{Decoded, decode};
+use input::read_full;
 use numbers::Client;
 use std::io;
 use std::io::Read;
