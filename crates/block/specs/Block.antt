@@ -1,12 +1,10 @@
 -- The shared words and how each is read (R1.2, R1.5).
-use Rattle.std.specs.Prelude.{ℕ, ◌+◌, ◌*◌, cond, List, ltb, eqb, get_or, replicate}
+use Rattle.std.specs.Prelude.{ℕ, ◌+◌, ◌*◌, cond, List, ltb, eqb, get_or, replicate, Option, Some, None}
 use Rattle.numbers.specs.Sizes.{clients, slots, cells}
 use Rattle.block.specs.declared.Block.{Block}
-use Rattle.block.specs.declared.Cell.{Cell}
-use Rattle.block.specs.declared.Log.{Log}
-use Rattle.block.specs.declared.LogWord.{LogWord}
 use Rattle.block.specs.declared.Standing.{Standing}
-use Rattle.block.specs.declared.StandingWord.{StandingWord}
+use Rattle.block.specs.declared.Entry.{Entry}
+use Rattle.numbers.specs.declared.Slot.{Slot}
 
 -- R1.2: the byte of an empty cell, which names no slot
 abbrev pub empty : ℕ
@@ -21,24 +19,24 @@ abbrev pub header_at : List ℕ → ℕ → ℕ
 header_at headers s = get_or headers s 0
 
 -- R1.2: a cell is empty, or a slot number
-abbrev pub cell_in : ℕ → Cell
-cell_in byte = cond (eqb byte empty) Cell.Empty (Cell.Holds (record { 0 = byte }))
+abbrev pub cell_in : ℕ → Option Slot
+cell_in byte = cond (eqb byte empty) None (Some (record { 0 = byte }))
 
 -- R1.1: where cell k of client c lies among the cells
 abbrev pub cell_index : ℕ → ℕ → ℕ
 cell_index c k = c * cells + k
 
 -- R1.2: what cell k of client c holds
-abbrev pub cell_at : List ℕ → ℕ → ℕ → Cell
-cell_at bytes c k = cond (ltb k cells) (cell_in (get_or bytes (cell_index c k) empty)) Cell.Empty
+abbrev pub cell_at : List ℕ → ℕ → ℕ → Option Slot
+cell_at bytes c k = cond (ltb k cells) (cell_in (get_or bytes (cell_index c k) empty)) None
 
 -- R1.2: the log of client c
-abbrev pub log_at : List LogWord → ℕ → Log
-log_at logs c = (get_or logs c (record { log = Log.Nothing })).log
+abbrev pub log_at : List (Option Entry) → ℕ → Option Entry
+log_at logs c = get_or logs c None
 
 -- R1.2: the standing of client c
-abbrev pub standing_at : List StandingWord → ℕ → Standing
-standing_at standings c = (get_or standings c (record { standing = Standing.Absent })).standing
+abbrev pub standing_at : List Standing → ℕ → Standing
+standing_at standings c = get_or standings c Standing.Absent
 
 -- R1.5: all headers 0, cells empty, logs none, clients absent
 unfoldable pub fresh_block : Block
@@ -46,6 +44,6 @@ fresh_block =
     record {
       headers = replicate slots 0;
       cells = replicate all_cells empty;
-      logs = replicate clients (record { log = Log.Nothing });
-      standings = replicate clients (record { standing = Standing.Absent });
+      logs = replicate clients None;
+      standings = replicate clients Standing.Absent;
     }

@@ -1,3 +1,4 @@
 pub mod Block
 pub mod Matrix
 pub mod Store
+pub mod Lent

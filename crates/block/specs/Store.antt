@@ -1,22 +1,21 @@
 -- The one word that a step or a call writes (R3.0, R2.16), and each of the shared words after it.
-use Rattle.std.specs.Prelude.{ℕ, cond, List, [], ltb, get_or, set}
+use Rattle.std.specs.Prelude.{ℕ, cond, List, [], ltb, get_or, set, Option, Some, None}
 use Rattle.numbers.specs.declared.Era.{Era}
 use Rattle.numbers.specs.Sizes.{cells}
 use Rattle.block.specs.declared.Block.{Block}
-use Rattle.block.specs.declared.Cell.{Cell}
-use Rattle.block.specs.declared.Log.{Log}
-use Rattle.block.specs.declared.LogWord.{LogWord}
-use Rattle.block.specs.declared.StandingWord.{StandingWord}
 use Rattle.block.specs.declared.store.Store.{Store}
+use Rattle.block.specs.declared.Entry.{Entry}
+use Rattle.numbers.specs.declared.Slot.{Slot}
+use Rattle.block.specs.declared.Standing.{Standing}
 use Rattle.block.specs.Block.{empty, cell_index}
 
 -- R1.2: what a cell holds, as its byte
-abbrev pub byte_of : Cell → ℕ
-byte_of Cell.Empty = empty
-byte_of (Cell.Holds s) = s.0
+abbrev pub byte_of : Option Slot → ℕ
+byte_of None = empty
+byte_of (Some s) = s.0
 
 -- the cells with cell k of client c written
-abbrev pub cells_with : List ℕ → ℕ → ℕ → Cell → List ℕ
+abbrev pub cells_with : List ℕ → ℕ → ℕ → Option Slot → List ℕ
 cells_with bytes c k held = cond (ltb k cells) (set bytes (cell_index c k) (byte_of held)) bytes
 
 -- the matrix with what i has seen of j written
@@ -42,22 +41,22 @@ cells_after (Store.Era i j e) bytes = bytes
 cells_after (Store.Standing c s) bytes = bytes
 
 -- the logs after a store
-abbrev pub logs_after : Store → List LogWord → List LogWord
+abbrev pub logs_after : Store → List (Option Entry) → List (Option Entry)
 logs_after Store.Nothing logs = logs
 logs_after (Store.Header s w) logs = logs
 logs_after (Store.Cell c k held) logs = logs
-logs_after (Store.Log c e) logs = set logs c.0 (record { log = Log.Wrote e })
+logs_after (Store.Log c e) logs = set logs c.0 (Some e)
 logs_after (Store.Era i j e) logs = logs
 logs_after (Store.Standing c s) logs = logs
 
 -- the standings after a store
-abbrev pub standings_after : Store → List StandingWord → List StandingWord
+abbrev pub standings_after : Store → List Standing → List Standing
 standings_after Store.Nothing standings = standings
 standings_after (Store.Header s w) standings = standings
 standings_after (Store.Cell c k held) standings = standings
 standings_after (Store.Log c e) standings = standings
 standings_after (Store.Era i j e) standings = standings
-standings_after (Store.Standing c s) standings = set standings c.0 (record { standing = s })
+standings_after (Store.Standing c s) standings = set standings c.0 s
 
 -- the matrix after a store
 abbrev pub eras_after : Store → List (List ℕ) → List (List ℕ)

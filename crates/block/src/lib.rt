@@ -7,8 +7,9 @@
 pub mod matrix;
 pub mod store;
 
-ghost use Rattle.std.specs.Prelude.{◌≡◌};
-ghost use Rattle.block.specs.Block.{header_at, cell_at, cell_in, log_at, standing_at, fresh_block};
+ghost use Rattle.std.specs.Prelude.{◌≡◌, get_or};
+ghost use Rattle.block.specs.Block.{header_at, cell_at, cell_in, cell_index, log_at, standing_at, fresh_block};
+ghost use Rattle.block.specs.Lent.{lent};
 
 use numbers::{CELLS, CLIENTS, Client, Era, SLOTS, Slot};
 
@@ -19,7 +20,7 @@ pub const ALL_CELLS: usize = CLIENTS * CELLS;
 pub const EMPTY: u8 = 255;
 
 // What an operation does to its slot's count.
-#[derive(Clone, Copy)]
+#[derive(Clone, Copy, PartialEq, Eq)]
 pub enum Kind {
     Lease,
     Attach,
@@ -27,7 +28,7 @@ pub enum Kind {
 }
 
 // An operation: what it does, for which cell, to which slot.
-#[derive(Clone, Copy)]
+#[derive(Clone, Copy, PartialEq, Eq)]
 pub struct Operation {
     pub kind: Kind,
     pub cell: u8,
@@ -35,28 +36,15 @@ pub struct Operation {
 }
 
 // A log that was written: the operation, the own era it was logged at and the count it had read.
-#[derive(Clone, Copy)]
+#[derive(Clone, Copy, PartialEq, Eq)]
 pub struct Entry {
     pub operation: Operation,
     pub era: Era,
     pub count: u32,
 }
 
-// A client's log.
-#[derive(Clone, Copy)]
-pub enum Log {
-    Nothing,
-    Wrote(Entry),
-}
-
-// One word of the logs.
-#[derive(Clone, Copy)]
-pub struct LogWord {
-    pub log: Log,
-}
-
 // A client's standing.
-#[derive(Clone, Copy)]
+#[derive(Clone, Copy, PartialEq, Eq)]
 pub enum Standing {
     Absent,
     Running,
@@ -64,26 +52,37 @@ pub enum Standing {
     InRescue,
 }
 
-// One word of the standings.
-#[derive(Clone, Copy)]
-pub struct StandingWord {
-    pub standing: Standing,
-}
-
-// What a cell holds. In the block it is a byte: the slot's number, or 255.
-#[derive(Clone, Copy)]
-pub enum Cell {
-    Empty,
-    Holds(Slot),
-}
-
-// The shared words but for the era matrix. The cells of client c are the sixteen from 16 times c on.
+// The shared words but for the era matrix. The cells of client c are the sixteen from 16 times c on, each a byte: the
+// slot's number, or 255. A client's log is none, or what it wrote.
 #[derive(Clone, Copy)]
 pub struct Block {
     pub headers: [u64; SLOTS],
     pub cells: [u8; ALL_CELLS],
-    pub logs: [LogWord; CLIENTS],
-    pub standings: [StandingWord; CLIENTS],
+    pub logs: [Option<Entry>; CLIENTS],
+    pub standings: [Standing; CLIENTS],
+}
+
+// The words of a block, lent to be read.
+#[derive(Clone, Copy)]
+pub struct Words<'a> {
+    pub headers: &'a [u64],
+    pub cells: &'a [u8],
+    pub logs: &'a [Option<Entry>],
+    pub standings: &'a [Standing],
+}
+
+impl Block {
+    // Its words, lent.
+    pub fn lend(&self) -> Words<'_>
+        ensures { lent result ≡ self.now }
+    {
+        Words {
+            headers: &self.headers,
+            cells: &self.cells,
+            logs: &self.logs,
+            standings: &self.standings,
+        }
+    }
 }
 
 // The block before the first call.
@@ -92,71 +91,65 @@ pub fn fresh_block() -> Block
     ensures { result ≡ fresh_block }
 {
     Block {
-        headers: [0u64; SLOTS],
+        headers: [0; SLOTS],
         cells: [EMPTY; ALL_CELLS],
-        logs: [LogWord { log: Log::Nothing }; CLIENTS],
-        standings: [StandingWord {
-            standing: Standing::Absent,
-        }; CLIENTS],
+        logs: [None; CLIENTS],
+        standings: [Standing::Absent; CLIENTS],
     }
+}
+
+// The word at a place; past the last one, what a fresh block holds there.
+pub fn word_at<T: Copy + Drop>(words: &[T], place: usize, fresh: T) -> T
+    ensures { result ≡ get_or words.now place fresh }
+{
+    words.get(place).copied().unwrap_or(fresh)
 }
 
 // The header of a slot.
 pub fn header_at(headers: &[u64], slot: Slot) -> u64
     ensures { result ≡ header_at headers.now slot.0 }
 {
-    let at = slot.0 as usize;
-    if at < headers.len() { headers[at] } else { 0 }
+    word_at(headers, slot.0 as usize, 0)
 }
 
 // What a cell's byte says.
-pub fn cell_in(byte: u8) -> Cell
+pub fn cell_in(byte: u8) -> Option<Slot>
     ensures { result ≡ cell_in byte }
 {
     if byte == EMPTY {
-        Cell::Empty
+        None
     } else {
-        Cell::Holds(Slot(byte))
+        Some(Slot(byte))
     }
+}
+
+// Where a client's cell lies among the cells.
+fn cell_index(client: Client, cell: u8) -> usize
+    ensures { result ≡ cell_index client.0 cell }
+{
+    client.0 as usize * CELLS + cell as usize
 }
 
 // What a client's cell holds.
-pub fn cell_at(cells: &[u8], client: Client, cell: u8) -> Cell
+pub fn cell_at(cells: &[u8], client: Client, cell: u8) -> Option<Slot>
     ensures { result ≡ cell_at cells.now client.0 cell }
 {
     if CELLS <= cell as usize {
-        return Cell::Empty;
+        return None;
     }
-    let at = client.0 as usize * CELLS + cell as usize;
-    if at < cells.len() {
-        cell_in(cells[at])
-    } else {
-        Cell::Empty
-    }
+    cell_in(word_at(cells, cell_index(client, cell), EMPTY))
 }
 
 // A client's log.
-pub fn log_at(logs: [LogWord; CLIENTS], client: Client) -> Log
-    ensures { result ≡ log_at logs client.0 }
+pub fn log_at(logs: &[Option<Entry>], client: Client) -> Option<Entry>
+    ensures { result ≡ log_at logs.now client.0 }
 {
-    let at = client.0 as usize;
-    if at < CLIENTS {
-        let word = logs[at];
-        word.log
-    } else {
-        Log::Nothing
-    }
+    word_at(logs, client.0 as usize, None)
 }
 
 // A client's standing.
-pub fn standing_at(standings: [StandingWord; CLIENTS], client: Client) -> Standing
-    ensures { result ≡ standing_at standings client.0 }
+pub fn standing_at(standings: &[Standing], client: Client) -> Standing
+    ensures { result ≡ standing_at standings.now client.0 }
 {
-    let at = client.0 as usize;
-    if at < CLIENTS {
-        let word = standings[at];
-        word.standing
-    } else {
-        Standing::Absent
-    }
+    word_at(standings, client.0 as usize, Standing::Absent)
 }

@@ -11,13 +11,13 @@ use Rattle.stages.specs.Stages.{step_of}
 use Rattle.rescue.specs.Rescue.{rescue_of}
 use Rattle.calls.specs.declared.Act.{Act}
 use Rattle.calls.specs.declared.Records.{Records}
-use Rattle.calls.specs.declared.Outcome.{Outcome}
+use Rattle.stages.specs.declared.Outcome.{Outcome}
 use Rattle.calls.specs.Checks.{Check, unchanged, refused, after_checks}
 use Rattle.calls.specs.Calls.{client, accepted, of_client, of_rescuer, shows_cell, asks, effect, checks, plain_call}
 
-module _ (P : Outcome → Type 0) (given : Records) where
+module _ (P : Outcome Records → Type 0) (given : Records) where
   -- it holds of a choice where it holds of both
-  pub either : (test : Bool) (o p : Outcome) → P o → P p → P (cond test o p)
+  pub either : (test : Bool) (o p : Outcome Records) → P o → P p → P (cond test o p)
   either true o p a b = a
   either false o p a b = b
 
@@ -27,7 +27,7 @@ module _ (P : Outcome → Type 0) (given : Records) where
   Refuses (check ∷ rest) = P (unchanged check.refusal given) × Refuses rest
 
   -- then it holds of the call that asks them
-  pub after_checks_lem : (list : List Check) (o : Outcome) → Refuses list → P o → P (after_checks list given o)
+  pub after_checks_lem : (list : List Check) (o : Outcome Records) → Refuses list → P o → P (after_checks list given o)
   after_checks_lem [] o r a = a
   after_checks_lem (check ∷ rest) o r a =
       either check.passes (after_checks rest given o) (refused check.refusal given)

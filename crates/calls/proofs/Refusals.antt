@@ -6,11 +6,10 @@ use mathlib.Core.Bool.{Bool, true, false, cond, false≢true}
 use mathlib.Core.List.{List}
 use mathlib.Core.Logic.{⊎_elim}
 use mathlib.Core.Path.{◌≡◌, refl, sym, ap, ◌∙◌}
+use Rattle.std.specs.Prelude.{Option, Some, None}
 use Rattle.numbers.specs.declared.answers.Answer.{Answer}
 use Rattle.numbers.specs.declared.Client.{Client}
 use Rattle.block.specs.declared.Block.{Block}
-use Rattle.block.specs.declared.Cell.{Cell}
-use Rattle.block.specs.declared.Log.{Log}
 use Rattle.block.specs.declared.store.Store.{Store}
 use Rattle.block.specs.Block.{cell_at, header_at, log_at}
 use Rattle.block.specs.Matrix.{seen_era}
@@ -26,21 +25,23 @@ use Rattle.rescue.proofs.Answers.{rescue_answers}
 use Rattle.limits.specs.Limits.{within}
 use Rattle.calls.specs.declared.Call.{Call}
 use Rattle.calls.specs.declared.Records.{Records}
-use Rattle.calls.specs.declared.Outcome.{Outcome}
+use Rattle.stages.specs.declared.Outcome.{Outcome}
+use Rattle.block.specs.declared.Entry.{Entry}
+use Rattle.numbers.specs.declared.Slot.{Slot}
 use Rattle.calls.specs.Checks.{unchanged}
 use Rattle.calls.specs.Calls.{client, of_client, of_rescuer, looked, shown, checked_call}
 use Rattle.calls.specs.Demands.{leaves_everything, ends_operation, ended, Demand1}
 use Rattle.calls.proofs.Cases.{either, plain_cases}
 
 -- what an outcome owes to the records that its call was given
-record Owes (given : Records) (o : Outcome) : Type 0 where
+record Owes (given : Records) (o : Outcome Records) : Type 0 where
   nothing_written : leaves_everything o.answer ≡ true → o.store ≡ Store.Nothing
-  same_records : leaves_everything o.answer ≡ true → o.records ≡ given
+  same_records : leaves_everything o.answer ≡ true → o.next ≡ given
   nothing_swapped : ends_operation o.answer ≡ true → o.store ≡ Store.Nothing
-  ended_records : ends_operation o.answer ≡ true → o.records ≡ ended given
+  ended_records : ends_operation o.answer ≡ true → o.next ≡ ended given
 
 -- an answer that is neither owes nothing
-goes_on : (given : Records) (o : Outcome) → leaves_everything o.answer ≡ false → ends_operation o.answer ≡ false → Owes given o
+goes_on : (given : Records) (o : Outcome Records) → leaves_everything o.answer ≡ false → ends_operation o.answer ≡ false → Owes given o
 goes_on given o l e =
     record {
       nothing_written = λ t. absurd (false≢true (sym l ∙ t));
@@ -104,7 +105,7 @@ module _ (given : Records) where
 
   -- a rescue step goes on or answers 100
   rescue_owes :
-      (c : Client) (headers bytes : List ℕ) (log : Log) (eras : List (List ℕ)) (step : RescuerStep) →
+      (c : Client) (headers bytes : List ℕ) (log : Option Entry) (eras : List (List ℕ)) (step : RescuerStep) →
       Owes given (of_rescuer (rescue_of c headers bytes log eras step) given)
   unfolding rescue_of
   rescue_owes c headers bytes log eras step =
@@ -115,14 +116,14 @@ module _ (given : Records) where
       goes_on given _ g.0 g.1
 
 -- no look up ends an operation
-looked_ends_none : (stage : Stage) (held : Cell) (k : ℕ) → ends_operation (looked stage held k) ≡ false
+looked_ends_none : (stage : Stage) (held : Option Slot) (k : ℕ) → ends_operation (looked stage held k) ≡ false
 unfolding looked
 looked_ends_none stage held k = tested (releasing stage k) held
   where
-    tested : (test : Bool) (held : Cell) → ends_operation (cond test Answer.ShowsNothing (shown held)) ≡ false
+    tested : (test : Bool) (held : Option Slot) → ends_operation (cond test Answer.ShowsNothing (shown held)) ≡ false
     tested true held = refl
-    tested false Cell.Empty = refl
-    tested false (Cell.Holds s) = refl
+    tested false None = refl
+    tested false (Some s) = refl
 
 -- what each call owes, whatever it is given
 call_owes : (call : Call) (b : Block) (eras : List (List ℕ)) (given : Records) → Owes given (checked_call call b eras given)

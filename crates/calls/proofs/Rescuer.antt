@@ -11,7 +11,7 @@ use Rattle.block.specs.declared.Standing.{Standing}
 use Rattle.block.specs.Block.{standing_at}
 use Rattle.block.specs.Store.{block_after, eras_after}
 use Rattle.limits.specs.Limits.{within}
-use Rattle.calls.specs.declared.Outcome.{Outcome}
+use Rattle.stages.specs.declared.Outcome.{Outcome}
 use Rattle.calls.specs.declared.Records.{Records}
 use Rattle.calls.specs.Calls.{asks, effect, stands_as, plain_call, checked_call}
 use Rattle.calls.specs.Named.{take_over}
@@ -32,5 +32,5 @@ pub knows_only_shared_words : KnowsOnlySharedWords
 unfolding KnowsOnlySharedWords taken_over
 knows_only_shared_words n c b eras given other below failed limits others =
     ap
-    (λ (o : Outcome). rescue_steps n c (block_after o.store b) (eras_after o.store eras) o.records (o.answer ∷ []))
+    (λ (o : Outcome Records). rescue_steps n c (block_after o.store b) (eras_after o.store eras) o.next (o.answer ∷ []))
     (fresh_rescuer c b eras given below failed limits ∙ sym (fresh_rescuer c b eras other below failed others))

@@ -68,7 +68,7 @@ pub record Demand1 (call : Call) (b : Block) (eras : List (List ℕ)) (given : R
       leaves_everything (checked_call call b eras given).answer ≡ true →
       eras_after (checked_call call b eras given).store eras ≡ eras
   pub leaves_records :
-      leaves_everything (checked_call call b eras given).answer ≡ true → (checked_call call b eras given).records ≡ given
+      leaves_everything (checked_call call b eras given).answer ≡ true → (checked_call call b eras given).next ≡ given
   pub ends_block :
       ends_operation (checked_call call b eras given).answer ≡ true →
       block_after (checked_call call b eras given).store b ≡ b
@@ -76,7 +76,7 @@ pub record Demand1 (call : Call) (b : Block) (eras : List (List ℕ)) (given : R
       ends_operation (checked_call call b eras given).answer ≡ true →
       eras_after (checked_call call b eras given).store eras ≡ eras
   pub ends_the_operation :
-      ends_operation (checked_call call b eras given).answer ≡ true → (checked_call call b eras given).records ≡ ended given
+      ends_operation (checked_call call b eras given).answer ≡ true → (checked_call call b eras given).next ≡ ended given
 
 -- what a rescuer of client c has been answered, and the shared words that it leaves
 pub record Seen : Type 0 where
@@ -89,13 +89,13 @@ unfoldable pub rescue_steps : ℕ → ℕ → Block → List (List ℕ) → Reco
 rescue_steps zero c b eras given answers = record { answers = answers; block = b; eras = eras }
 rescue_steps (suc n) c b eras given answers =
     let o = checked_call (rescue_step c) b eras given in
-    rescue_steps n c (block_after o.store b) (eras_after o.store eras) o.records (o.answer ∷ answers)
+    rescue_steps n c (block_after o.store b) (eras_after o.store eras) o.next (o.answer ∷ answers)
 
 -- R4.9: a take over of client c and n rescue steps after it
 unfoldable pub taken_over : ℕ → ℕ → Block → List (List ℕ) → Records → Seen
 taken_over n c b eras given =
     let o = checked_call (take_over c) b eras given in
-    rescue_steps n c (block_after o.store b) (eras_after o.store eras) o.records (o.answer ∷ [])
+    rescue_steps n c (block_after o.store b) (eras_after o.store eras) o.next (o.answer ∷ [])
 
 -- D2: a rescuer knows only what lies in shared memory: shared words with client c failed give its new rescuer the same
 -- answers and the same shared words, step after step, whatever the private words were

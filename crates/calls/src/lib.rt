@@ -4,17 +4,18 @@
 #![tactic(auto)]
 
 ghost use Rattle.std.specs.Prelude.{◌≡◌};
-ghost use Rattle.calls.specs.Checks.{unchanged, refused, standing_code, same_standing};
+ghost use Rattle.calls.specs.Checks.{checked, settled, unchanged};
 ghost use Rattle.calls.specs.Calls.{nothing, accepted, of_client, of_rescuer};
 
 use block::Standing;
 use block::store::Store;
+use numbers::Client;
 use numbers::answers::Answer;
-use rescue::{Rescued, RescuerRecord, RescuerStep};
-use stages::{ClientRecord, Stage, Stepped};
+use rescue::{RescuerRecord, RescuerStep};
+use stages::{ClientRecord, Outcome, Stage};
 
 // What is asked of a client, with any numbers where it names a cell and a slot.
-#[derive(Clone, Copy)]
+#[derive(Clone, Copy, PartialEq, Eq)]
 pub enum Act {
     Join,
     Leave,
@@ -30,25 +31,25 @@ pub enum Act {
 }
 
 // A call: a client, by any number, and what is asked of it.
-#[derive(Clone, Copy)]
+#[derive(Clone, Copy, PartialEq, Eq)]
 pub struct Call {
     pub client: u64,
     pub act: Act,
 }
 
 // The private words of one client: its own record and its rescuer's.
-#[derive(Clone, Copy)]
+#[derive(Clone, Copy, PartialEq, Eq)]
 pub struct Records {
     pub client: ClientRecord,
     pub rescuer: RescuerRecord,
 }
 
-// What a call answers, the records that it hands back and the one shared word that it writes.
-#[derive(Clone, Copy)]
-pub struct Outcome {
-    pub answer: Answer,
+// The client that a call names, the standing it was found with and the records that the call is given.
+#[derive(Clone, Copy, PartialEq, Eq)]
+pub struct Caller {
+    pub me: Client,
+    pub found: Standing,
     pub records: Records,
-    pub store: Store,
 }
 
 // Records with nothing under way.
@@ -63,80 +64,66 @@ pub fn nothing() -> Records
     }
 }
 
+// A check: nothing where it passes, else the answer of the call.
+pub fn check(passes: bool, refusal: Answer) -> Result<(), Answer>
+    ensures { result ≡ checked (record { passes = passes; refusal = refusal }) }
+{
+    if passes { Ok(()) } else { Err(refusal) }
+}
+
+// The outcome of a call whose checks let it through; else its refusal, which leaves everything as it was.
+pub fn settled(records: Records, done: Result<Outcome<Records>, Answer>) -> Outcome<Records>
+    ensures { result ≡ settled records done }
+{
+    done.unwrap_or_else(|answer| unchanged(answer, records))
+}
+
 // A call that leaves everything as it was.
-pub fn unchanged(answer: Answer, records: Records) -> Outcome
+pub fn unchanged(answer: Answer, records: Records) -> Outcome<Records>
     ensures { result ≡ unchanged answer records }
 {
     Outcome {
         answer,
-        records,
+        next: records,
         store: Store::Nothing,
     }
 }
 
-// A refused call.
-pub fn refused(answer: Answer, records: Records) -> Outcome
-    ensures { result ≡ refused answer records }
-{
-    unchanged(answer, records)
-}
-
 // An accepted call.
-pub fn accepted(records: Records, store: Store) -> Outcome
+pub fn accepted(records: Records, store: Store) -> Outcome<Records>
     ensures { result ≡ accepted records store }
 {
     Outcome {
         answer: Answer::Accepted,
-        records,
+        next: records,
         store,
     }
 }
 
 // A client's step as the outcome of a call.
-pub fn of_client(stepped: Stepped, records: Records) -> Outcome
+pub fn of_client(stepped: Outcome<ClientRecord>, records: Records) -> Outcome<Records>
     ensures { result ≡ of_client stepped records }
 {
-    let answer = stepped.answer;
-    let client = stepped.next;
-    let store = stepped.store;
-    let rescuer = records.rescuer;
     Outcome {
-        answer,
-        records: Records { client, rescuer },
-        store,
+        answer: stepped.answer,
+        next: Records {
+            client: stepped.next,
+            ..records
+        },
+        store: stepped.store,
     }
 }
 
 // A rescuer's step as the outcome of a call.
-pub fn of_rescuer(rescued: Rescued, records: Records) -> Outcome
+pub fn of_rescuer(rescued: Outcome<RescuerRecord>, records: Records) -> Outcome<Records>
     ensures { result ≡ of_rescuer rescued records }
 {
-    let answer = rescued.answer;
-    let rescuer = rescued.next;
-    let store = rescued.store;
-    let client = records.client;
     Outcome {
-        answer,
-        records: Records { client, rescuer },
-        store,
+        answer: rescued.answer,
+        next: Records {
+            rescuer: rescued.next,
+            ..records
+        },
+        store: rescued.store,
     }
-}
-
-// The four standings told apart.
-fn standing_code(standing: Standing) -> u8
-    ensures { result ≡ standing_code standing }
-{
-    match standing {
-        Standing::Absent => 0,
-        Standing::Running => 1,
-        Standing::Failed => 2,
-        Standing::InRescue => 3,
-    }
-}
-
-// Whether the standing that was found is the one asked for.
-pub fn stands(asked: Standing, found: Standing) -> bool
-    ensures { result ≡ same_standing asked found }
-{
-    standing_code(found) == standing_code(asked)
 }

@@ -3,32 +3,29 @@
 
 ghost use Rattle.std.specs.Prelude.{◌≡◌};
 ghost use Rattle.calls.specs.Named.{of};
-ghost use Rattle.decode.specs.Decode.{decoded};
+ghost use Rattle.decode.specs.Decode.{first_asked};
 
 use calls::{Act, Call};
 
-// What a record asks for: a call that is known, or none.
-#[derive(Clone, Copy)]
-pub enum Decoded {
-    Known(Call),
-    Unknown,
-}
+// How many bytes a record is.
+pub const RECORD: usize = 4;
 
 // A known call.
-fn known(client: u8, act: Act) -> Decoded
-    ensures { result ≡ Decoded.Known (of client act) }
+fn known(client: u8, act: Act) -> Option<Call>
+    ensures { result ≡ Some (of client act) }
 {
-    Decoded::Known(Call {
+    Some(Call {
         client: client as u64,
         act,
     })
 }
 
-// The call that a record's four bytes name.
+// The call that a record's four bytes name: call, client, cell, slot.
 #[tactic(auto, unfolding(crate::specs::Decode::decoded))]
-pub fn decode(call: u8, client: u8, cell: u8, slot: u8) -> Decoded
-    ensures { result ≡ decoded call client cell slot }
+pub fn decode(bytes: [u8; RECORD]) -> Option<Call>
+    ensures { result ≡ first_asked bytes }
 {
+    let [call, client, cell, slot] = bytes;
     let k = cell as u64;
     let s = slot as u64;
     match call {
@@ -43,6 +40,6 @@ pub fn decode(call: u8, client: u8, cell: u8, slot: u8) -> Decoded
         9 => known(client, Act::RescueStep),
         10 => known(client, Act::RescuerFails),
         11 => known(client, Act::LookUp(k)),
-        0 | 12..=255 => Decoded::Unknown,
+        0 | 12..=255 => None,
     }
 }

@@ -1,7 +1,7 @@
 -- The laws of the header word: packing and unpacking undo each other within the fields' widths, and each field is
 -- bounded by its width. Assumes nothing.
 use Prim.Native.Nat.{ℕ, ◌+◌, ◌*◌, ◌/◌, ◌%◌, ◌<◌}
-use mathlib.Core.Path.{◌≡◌, refl, sym, ap, ◌∙◌}
+use mathlib.Core.Path.{◌≡◌, refl, sym, ◌∙◌}
 use native.Mathlib.Nat.{mod-mod, mod-eq_of_lt, div-div-eq-div-mul, div-add-mod'}
 use native.Mathlib.Omega.{arith}
 use Rattle.header.specs.declared.Fields.{Fields}
@@ -79,13 +79,3 @@ zero_count = refl
 pub zero_client : client_in 0 ≡ 0
 unfolding unpacked
 zero_client = refl
-
--- what a call of `unpack` handed over, field by field
-pub era_read : {f : Fields} (w : ℕ) → f ≡ unpacked w → era_in w ≡ f.era.0
-era_read w e = ap (λ (f : Fields). f.era.0) (sym e)
-
-pub count_read : {f : Fields} (w : ℕ) → f ≡ unpacked w → count_in w ≡ f.count
-count_read w e = ap (λ (f : Fields). f.count) (sym e)
-
-pub client_read : {f : Fields} (w : ℕ) → f ≡ unpacked w → client_in w ≡ f.client.0
-client_read w e = ap (λ (f : Fields). f.client.0) (sym e)

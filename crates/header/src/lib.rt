@@ -8,20 +8,20 @@ ghost use Rattle.header.specs.Header.{packed, unpacked, is_free, spare_in};
 use numbers::{Client, Era};
 
 // What a header holds.
-#[derive(Clone, Copy)]
+#[derive(Clone, Copy, PartialEq, Eq)]
 pub struct Fields {
     pub era: Era,
     pub count: u32,
     pub client: Client,
 }
 
-// The word that holds `fields`, each in its own bits.
+// The word that holds `fields`, each in its own bits. Named, and no `From`: `u64::from(fields)` would not say which word.
 pub fn pack(fields: Fields) -> u64
     ensures { result ≡ packed fields }
 {
-    (fields.era.0 as u64)
-        + (fields.count as u64 % 65536) * 4294967296
-        + (fields.client.0 as u64) * 281474976710656
+    u64::from(fields.era.0)
+        | u64::from(fields.count & 0xffff) << 32
+        | u64::from(fields.client.0) << 48
 }
 
 // The fields that `word` holds. Its bits 56 to 63 are not among them.
@@ -29,9 +29,9 @@ pub fn unpack(word: u64) -> Fields
     ensures { result ≡ unpacked word }
 {
     Fields {
-        era: Era((word % 4294967296) as u32),
-        count: (word / 4294967296 % 65536) as u32,
-        client: Client((word / 281474976710656 % 256) as u8),
+        era: Era((word & 0xffff_ffff) as u32),
+        count: (word >> 32 & 0xffff) as u32,
+        client: Client((word >> 48 & 0xff) as u8),
     }
 }
 
@@ -46,5 +46,5 @@ pub fn is_free(word: u64) -> bool
 pub fn spare(word: u64) -> u64
     ensures { result ≡ spare_in word }
 {
-    word / 72057594037927936
+    word >> 56
 }

@@ -5,9 +5,9 @@ use mathlib.Core.Bool.{Bool, true, false, cond}
 use mathlib.Core.List.{List}
 use mathlib.Core.Path.{◌≡◌}
 use native.Mathlib.Omega.{arith}
+use Rattle.std.specs.Prelude.{Option, Some, None}
 use Rattle.numbers.specs.declared.answers.Answer.{Answer}
 use Rattle.block.specs.declared.Block.{Block}
-use Rattle.block.specs.declared.Cell.{Cell}
 use Rattle.block.specs.Block.{header_at, cell_at, log_at}
 use Rattle.block.specs.Matrix.{seen_era}
 use Rattle.stages.specs.declared.Stage.{Stage}
@@ -17,8 +17,9 @@ use Rattle.rescue.specs.Search.{lowest_full}
 use Rattle.rescue.specs.Rescue.{rescue_of}
 use Rattle.rescue.proofs.Answers.{rescue_answers}
 use Rattle.calls.specs.declared.Call.{Call}
-use Rattle.calls.specs.declared.Outcome.{Outcome}
+use Rattle.stages.specs.declared.Outcome.{Outcome}
 use Rattle.calls.specs.declared.Records.{Records}
+use Rattle.numbers.specs.declared.Slot.{Slot}
 use Rattle.calls.specs.Calls.{client, looked, shown, plain_call}
 use Rattle.calls.proofs.Cases.{plain_cases}
 use Rattle.history.proofs.Updates.{apart}
@@ -28,21 +29,21 @@ abbrev Told : Answer → Type 0
 Told answer = answer ≡ Answer.BeyondLimits → ⊥
 
 -- a look up
-look_told : (stage : Stage) (held : Cell) (k : ℕ) → Told (looked stage held k)
+look_told : (stage : Stage) (held : Option Slot) (k : ℕ) → Told (looked stage held k)
 unfolding looked
 look_told stage held k = by_cell (releasing stage k) held
   where
-    by_cell : (test : Bool) (held : Cell) → Told (cond test Answer.ShowsNothing (shown held))
+    by_cell : (test : Bool) (held : Option Slot) → Told (cond test Answer.ShowsNothing (shown held))
     by_cell true held = apart _ _ (λ e. omega arith)
-    by_cell false Cell.Empty = apart _ _ (λ e. omega arith)
-    by_cell false (Cell.Holds s) = apart _ _ (λ e. omega arith)
+    by_cell false None = apart _ _ (λ e. omega arith)
+    by_cell false (Some s) = apart _ _ (λ e. omega arith)
 
 -- every call
 pub never_beyond :
     (call : Call) (b : Block) (eras : List (List ℕ)) (given : Records) → Told (plain_call call b eras given).answer
 unfolding step_of rescue_of
 never_beyond call b eras given =
-    plain_cases (λ (o : Outcome). Told o.answer) given
+    plain_cases (λ (o : Outcome Records). Told o.answer) given
     (apart _ _ (λ e. omega arith))
     (apart _ _ (λ e. omega arith))
     (apart _ _ (λ e. omega arith))

@@ -8,20 +8,21 @@ use native.Mathlib.Nat.{add-zero}
 use native.Mathlib.Omega.{arith}
 use lib.Dec.{eqb}
 use borrow.Author.Tests.{lt-ltb}
+use Rattle.std.specs.Prelude.{Option, Some, None}
 use Rattle.numbers.specs.Sizes.{clients, cells}
 use Rattle.numbers.specs.declared.answers.Answer.{Answer}
-use Rattle.block.specs.declared.Cell.{Cell}
 use Rattle.block.specs.declared.Standing.{Standing}
 use Rattle.block.specs.declared.store.Store.{Store}
 use Rattle.block.specs.Block.{cell_at}
-use Rattle.stages.specs.declared.Open.{Open}
 use Rattle.stages.specs.declared.Stage.{Stage}
 use Rattle.stages.specs.Stages.{open_in, none_open, idle}
 use Rattle.stages.proofs.Cases.{stage_idle}
 use Rattle.rescue.specs.Search.{lowest_full}
 use Rattle.rescue.specs.Rescue.{rescue_of}
 use Rattle.calls.specs.declared.Call.{Call}
-use Rattle.calls.specs.declared.Outcome.{Outcome}
+use Rattle.stages.specs.declared.Outcome.{Outcome}
+use Rattle.block.specs.declared.Operation.{Operation}
+use Rattle.calls.specs.declared.Records.{Records}
 use Rattle.calls.specs.Calls.{client, asks, effect}
 use Rattle.calls.specs.Named.{fail, rescue_step}
 use Rattle.world.specs.World.{World, records_at, fresh, answer, after, run}
@@ -56,7 +57,7 @@ module _ (w : World) (ghosts : ℕ → Won) (lines : List Line) (good : Good w g
     module _ (e : answer w (rescue_step c) ≡ Answer.Finished) where
       -- what has been found once a rescue answers 100: nothing is won, every cell is empty, the client turns absent
       rescued :
-          (ghosts c ≡ none) × ((k : ℕ) → k < cells → cell_at w.block.cells c k ≡ Cell.Empty) ×
+          (ghosts c ≡ none) × ((k : ℕ) → k < cells → cell_at w.block.cells c k ≡ None) ×
           ((effect_of w (rescue_step c)).store ≡ Store.Standing (client c) Standing.Absent)
       unfolding effect rescue_of
       rescued =
@@ -64,15 +65,15 @@ module _ (w : World) (ghosts : ℕ → Won) (lines : List Line) (good : Good w g
           (given w c).rescuer.step
           (clause_of w ghosts lines good.inv c l Standing.InRescue s).1
           ).done
-          (sym (ap (λ (o : Outcome). o.answer) (accepted_is w (rescue_step c) rescue_accepted)) ∙ e)
+          (sym (ap (λ (o : Outcome Records). o.answer) (accepted_is w (rescue_step c) rescue_accepted)) ∙ e)
 
       -- the world after it differs in one standing and the records
       after_is :
           after w (rescue_step c)
-          ≡ placed w (Store.Standing (client c) Standing.Absent) c (effect_of w (rescue_step c)).records
+          ≡ placed w (Store.Standing (client c) Standing.Absent) c (effect_of w (rescue_step c)).next
       after_is =
           after_accepted w (rescue_step c) rescue_accepted
-          ∙ ap (λ (st : Store). placed w st c (effect_of w (rescue_step c)).records) rescued.2
+          ∙ ap (λ (st : Store). placed w st c (effect_of w (rescue_step c)).next) rescued.2
 
       -- the client has no entries
       pub no_entries : NoEntries c (after w (rescue_step c))
@@ -95,10 +96,10 @@ past_one stage =
     (λ (t : idle stage ≡ true). rw (stage_idle stage t))
     (λ (t : idle stage ≡ false). by_open (open_in stage) (past_swap stage) t)
   where
-    by_open : (o : Open) (b : Bool) → none_open o ≡ false → extra (won_of b o) ≡ cond b 1 0
-    by_open Open.Nothing b e = absurd (false≢true (sym e))
-    by_open (Open.Doing op) true e = refl
-    by_open (Open.Doing op) false e = refl
+    by_open : (o : Option Operation) (b : Bool) → none_open o ≡ false → extra (won_of b o) ≡ cond b 1 0
+    by_open None b e = absurd (false≢true (sym e))
+    by_open (Some op) true e = refl
+    by_open (Some op) false e = refl
 
 -- a failure wins nothing
 fail_wins : (w : World) (c : ℕ) → wins c w (fail c) ≡ false

@@ -5,9 +5,9 @@ use mathlib.Core.List.{List}
 use mathlib.Core.Path.{◌≡◌, refl, sym, ap, ◌∙◌}
 use lib.Dec.{eqb}
 use borrow.Author.Tests.{ltb-true, eqb-true, eq-eqb, ne_eqb, not-true}
+use Rattle.std.specs.Prelude.{Option, Some, None}
 use Rattle.numbers.specs.Sizes.{clients, slots, cells}
 use Rattle.numbers.specs.declared.answers.Answer.{Answer}
-use Rattle.block.specs.declared.Cell.{Cell}
 use Rattle.block.specs.declared.Kind.{Kind}
 use Rattle.block.specs.declared.Operation.{Operation}
 use Rattle.block.specs.declared.Standing.{Standing}
@@ -18,12 +18,12 @@ use Rattle.block.specs.Store.{byte_of}
 use Rattle.stages.specs.declared.Stage.{Stage}
 use Rattle.stages.specs.Stages.{won, idle, is_release, step_of}
 use Rattle.stages.proofs.Cases.{stage_idle}
-use Rattle.rescue.specs.declared.search.Found.{Found}
 use Rattle.rescue.specs.Search.{lowest_full}
 use Rattle.rescue.specs.Rescue.{rescue_of, release_stage}
 use Rattle.calls.specs.declared.Act.{Act}
 use Rattle.calls.specs.declared.Records.{Records}
-use Rattle.calls.specs.declared.Outcome.{Outcome}
+use Rattle.stages.specs.declared.Outcome.{Outcome}
+use Rattle.numbers.specs.declared.Slot.{Slot}
 use Rattle.calls.specs.Checks.{standing_code, same_standing, is_empty, found_nothing}
 use Rattle.calls.specs.Calls.{client, nothing, accepted, stands_as, leaves, opened, of_client, of_rescuer, looked, asks_to_open, asks_to_release, release_opened, asks, effect, stage_of}
 use Rattle.calls.specs.Named.{of}
@@ -42,7 +42,7 @@ use Rattle.history.proofs.View.{hdr_of, mine_of}
 use Rattle.history.proofs.Outcomes.{none_opened, same_opened, checks_of, effect_of, lines_after, Passed}
 
 -- what an outcome of client a's call does
-pub record Done (w : World) (ghosts : ℕ → Won) (lines : List Line) (a : ℕ) (o : Outcome) (after : List Line)
+pub record Done (w : World) (ghosts : ℕ → Won) (lines : List Line) (a : ℕ) (o : Outcome Records) (after : List Line)
     (n : ℕ) : Type 0 where
   pub ghost : Won
   pub ours : Ours a o.store
@@ -57,7 +57,7 @@ pub record Done (w : World) (ghosts : ℕ → Won) (lines : List Line) (a : ℕ)
       (words_after o.store ghost (mine_of w ghosts a).words)
       after
       (standing_after o.store (mine_of w ghosts a).standing)
-      o.records
+      o.next
 
 -- the standing of a code
 standing_of : ℕ → Standing
@@ -78,30 +78,30 @@ pub standing_is_lem : (asked found : Standing) → same_standing asked found ≡
 standing_is_lem asked found e = sym (standing_of_lem found) ∙ ap standing_of (eqb-true _ _ e) ∙ standing_of_lem asked
 
 -- a cell that passes for empty is empty
-empty_is : (held : Cell) → is_empty held ≡ true → held ≡ Cell.Empty
-empty_is Cell.Empty e = refl
-empty_is (Cell.Holds s) e = absurd (false≢true e)
+empty_is : (held : Option Slot) → is_empty held ≡ true → held ≡ None
+empty_is None e = refl
+empty_is (Some s) e = absurd (false≢true e)
 
 -- a full cell holds the slot that its byte says
-full_is : (held : Cell) → is_empty held ≡ false → held ≡ Cell.Holds (record { 0 = byte_of held })
-full_is Cell.Empty e = absurd (false≢true (sym e))
-full_is (Cell.Holds s) e = refl
+full_is : (held : Option Slot) → is_empty held ≡ false → held ≡ Some (record { 0 = byte_of held })
+full_is None e = absurd (false≢true (sym e))
+full_is (Some s) e = refl
 
 -- the slot in a full cell is one that there is
-held_fits : (held : Cell) → is_empty held ≡ false → CellFits held → byte_of held < slots
-held_fits Cell.Empty e f = absurd (false≢true (sym e))
-held_fits (Cell.Holds s) e f = f
+held_fits : (held : Option Slot) → is_empty held ≡ false → CellFits held → byte_of held < slots
+held_fits None e f = absurd (false≢true (sym e))
+held_fits (Some s) e f = f
 
 -- a search that found nothing found every cell empty
 none_found :
-    (held : ℕ → Cell) (found : Found) →
+    (held : ℕ → Option Slot) (found : Option (ℕ × Slot)) →
     Finds held found →
     found_nothing found ≡ true →
     (k : ℕ) →
     k < cells →
-    held k ≡ Cell.Empty
-none_found held Found.Nothing f e = f
-none_found held (Found.At k s) f e = absurd (false≢true e)
+    held k ≡ None
+none_found held None f e = f
+none_found held (Some (k, s)) f e = absurd (false≢true e)
 
 -- the records of client a
 abbrev pub given : World → ℕ → Records
@@ -135,7 +135,7 @@ module _ (w : World) (ghosts : ℕ → Won) (lines : List Line) (inv : Inv (hdr_
       (r : Records) (answer : Answer) {after : List Line} →
       SameLines a lines after →
       Known w ghosts a (mine w ghosts a) after s r →
-      Done w ghosts lines a (record { answer = answer; records = r; store = Store.Nothing }) after 0
+      Done w ghosts lines a (record { answer = answer; next = r; store = Store.Nothing }) after 0
   keeps s e r answer p k =
       record { ghost = ghosts a; ours = tt; move = move_still (now a b inv) p; clause = rw e k }
 

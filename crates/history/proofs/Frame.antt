@@ -7,10 +7,10 @@ use mathlib.Core.Logic.{◌⊎◌, inl, inr, ⊎_elim}
 use mathlib.Core.Path.{◌≡◌, refl, sym, ap, ◌∙◌}
 use native.Mathlib.Omega.{arith}
 use native.Mathlib.Nat.{le_refl}
+use Rattle.std.specs.Prelude.{Option, Some, None}
 use Rattle.numbers.specs.Sizes.{clients, slots}
 use Rattle.header.specs.Header.{era_in, count_in, client_in}
 use Rattle.block.specs.declared.Standing.{Standing}
-use Rattle.stages.specs.declared.Kept.{Kept}
 use Rattle.stages.specs.declared.Stage.{Stage}
 use Rattle.stages.specs.Stages.{kept_in}
 use Rattle.rescue.specs.declared.RescuerStep.{RescuerStep}
@@ -37,9 +37,9 @@ module _ {seen later : ℕ → ℕ} (up : Up seen later) where
       }
 
   -- a kept header is still within its limits
-  kept_up : (kept : Kept) → KeptFits seen kept → KeptFits later kept
-  kept_up Kept.Nothing k = k
-  kept_up (Kept.Word h) k = word_up k
+  kept_up : (kept : Option ℕ) → KeptFits seen kept → KeptFits later kept
+  kept_up None k = k
+  kept_up (Some h) k = word_up k
 
   -- what is known at a stage is still known
   pub at_up : (c : ℕ) (x : Words) (stage : Stage) → At seen c x stage → At later c x stage

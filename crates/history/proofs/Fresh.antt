@@ -7,17 +7,15 @@ use native.Mathlib.Omega.{arith}
 use lib.Dec.{eqb, ltb}
 use lib.ListN.{length, get_or, replicate, length-replicate}
 use borrow.Author.Tests.{eq-eqb, ne_eqb, eqb-true}
+use Rattle.std.specs.Prelude.{Option, None}
 use Rattle.numbers.specs.Sizes.{clients, slots, cells}
 use Rattle.header.specs.Header.{spare_in}
 use Rattle.header.proofs.Laws.{zero_era, zero_count, zero_client}
-use Rattle.block.specs.declared.Cell.{Cell}
-use Rattle.block.specs.declared.Log.{Log}
-use Rattle.block.specs.declared.LogWord.{LogWord}
 use Rattle.block.specs.declared.Standing.{Standing}
-use Rattle.block.specs.declared.StandingWord.{StandingWord}
 use Rattle.block.specs.Block.{empty, all_cells, fresh_block, cell_index, cell_at, log_at, standing_at}
 use Rattle.block.specs.Matrix.{fresh_eras, seen_era}
 use Rattle.calls.specs.declared.Records.{Records}
+use Rattle.block.specs.declared.Entry.{Entry}
 use Rattle.calls.specs.Calls.{nothing}
 use Rattle.world.specs.World.{records_at, fresh}
 use Rattle.history.specs.Ledger.{naming}
@@ -91,22 +89,21 @@ unfolding fresh fresh_block
 fresh_byte i = same_everywhere all_cells i empty
 
 -- every cell is empty
-fresh_cell : (c k : ℕ) → cell_at fresh.block.cells c k ≡ Cell.Empty
+fresh_cell : (c k : ℕ) → cell_at fresh.block.cells c k ≡ None
 fresh_cell c k =
     by_test (ltb k cells)
     (λ (t : ltb k cells ≡ true). rw (t, fresh_byte (cell_index c k)))
     (λ (t : ltb k cells ≡ false). rw t)
 
 -- there are no logs
-fresh_log : (c : ℕ) → log_at fresh.block.logs c ≡ Log.Nothing
+fresh_log : (c : ℕ) → log_at fresh.block.logs c ≡ None
 unfolding fresh fresh_block
-fresh_log c = ap (λ (x : LogWord). x.log) (same_everywhere clients c (record { log = Log.Nothing }))
+fresh_log c = same_everywhere clients c None
 
 -- every client is absent
 fresh_standing : (c : ℕ) → standing_at fresh.block.standings c ≡ Standing.Absent
 unfolding fresh fresh_block
-fresh_standing c =
-    ap (λ (x : StandingWord). x.standing) (same_everywhere clients c (record { standing = Standing.Absent }))
+fresh_standing c = same_everywhere clients c Standing.Absent
 
 -- nothing is under way
 fresh_records_lem : (c : ℕ) → records_at fresh.records c ≡ nothing
@@ -120,8 +117,8 @@ fresh_shaped =
     record {
       headers = length-replicate {A = ℕ} slots 0;
       bytes = length-replicate {A = ℕ} all_cells empty;
-      logs = length-replicate {A = LogWord} clients (record { log = Log.Nothing });
-      standings = length-replicate {A = StandingWord} clients (record { standing = Standing.Absent });
+      logs = length-replicate {A = Option Entry} clients None;
+      standings = length-replicate {A = Standing} clients Standing.Absent;
       eras = refl;
       rows = fresh_row;
       records = length-replicate {A = Records} clients nothing;

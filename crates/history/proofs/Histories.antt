@@ -11,7 +11,8 @@ use borrow.Author.Tests.{eq-eqb, ne_eqb}
 use Rattle.numbers.specs.Sizes.{clients}
 use Rattle.stages.specs.Stages.{won}
 use Rattle.calls.specs.declared.Call.{Call}
-use Rattle.calls.specs.declared.Outcome.{Outcome}
+use Rattle.stages.specs.declared.Outcome.{Outcome}
+use Rattle.calls.specs.declared.Records.{Records}
 use Rattle.calls.specs.Calls.{stage_of}
 use Rattle.world.specs.World.{World, run_by, run, after}
 use Rattle.history.specs.Ledger.{Line, wins_at, given_to, accepts, entered, ledger_by, ledger, wins, swaps_won_by, swaps_won}
@@ -29,33 +30,33 @@ pub record Good (w : World) (ghosts : ℕ → Won) (lines : List Line) : Type 0 
   pub inv : Inv (hdr_of w) (mine_of w ghosts) lines
 
 module _ (w : World) (ghosts : ℕ → Won) (lines : List Line) (good : Good w ghosts lines) (a : ℕ) (b : a < clients)
-    (o : Outcome) (after : List Line) (n : Bool) (d : Done w ghosts lines a o after (cond n 1 0)) where
+    (o : Outcome Records) (after : List Line) (n : Bool) (d : Done w ghosts lines a o after (cond n 1 0)) where
   -- what an accepted call leads to
-  settled : Good (placed w o.store a o.records) (upd ghosts a d.ghost) after
+  settled : Good (placed w o.store a o.next) (upd ghosts a d.ghost) after
   settled =
       record {
-        shape = shaped_placed good.shape ghosts a b o.records d.ghost o.store d.ours;
+        shape = shaped_placed good.shape ghosts a b o.next d.ghost o.store d.ours;
         inv =
-            subst (λ (h : ℕ → ℕ). Inv h (mine_of (placed w o.store a o.records) (upd ghosts a d.ghost)) after)
-            (sym (headers_placed good.shape ghosts a b o.records d.ghost o.store d.ours))
+            subst (λ (h : ℕ → ℕ). Inv h (mine_of (placed w o.store a o.next) (upd ghosts a d.ghost)) after)
+            (sym (headers_placed good.shape ghosts a b o.next d.ghost o.store d.ours))
             (subst (λ (f : ℕ → Mine). Inv (hdr_after o.store (hdr_of w)) f after)
-            (sym (mine_placed good.shape ghosts a b o.records d.ghost o.store d.ours))
+            (sym (mine_placed good.shape ghosts a b o.next d.ghost o.store d.ours))
             (moved good.inv a b next d.move d.clause));
       }
     where
       next : Mine
-      next = mine_next good.shape ghosts a b o.records d.ghost o.store
+      next = mine_next good.shape ghosts a b o.next d.ghost o.store
 
   -- the own era of a client, with what is won, has risen by the swaps that the call wins
   tallied :
       (c : ℕ) →
-      vis (mine_of (placed w o.store a o.records) (upd ghosts a d.ghost)) c
+      vis (mine_of (placed w o.store a o.next) (upd ghosts a d.ghost)) c
       ≡ vis (mine_of w ghosts) c + cond (eqb a c && n) 1 0
   tallied c =
       subst (λ (f : ℕ → Mine). vis f c ≡ vis (mine_of w ghosts) c + cond (eqb a c && n) 1 0)
-      (sym (mine_placed good.shape ghosts a b o.records d.ghost o.store d.ours))
+      (sym (mine_placed good.shape ghosts a b o.next d.ghost o.store d.ours))
       (upd_all (λ c y. vis_of c y.words ≡ vis (mine_of w ghosts) c + cond (eqb a c && n) 1 0) (mine_of w ghosts) a
-      (mine_next good.shape ghosts a b o.records d.ghost o.store)
+      (mine_next good.shape ghosts a b o.next d.ghost o.store)
       (rw (eq-eqb a a refl) d.move.rise)
       (λ c q.
       rw (ne_eqb a c (λ e. q (sym e))) (sym (add-zero _)))

@@ -7,19 +7,15 @@ use mathlib.Core.Bool.{Bool, true, false}
 use mathlib.Core.List.{List, [], ◌∷◌}
 use mathlib.Core.Logic.{◌⊎◌}
 use mathlib.Core.Path.{◌≡◌}
+use Rattle.std.specs.Prelude.{Option, Some, None}
 use Rattle.numbers.specs.Sizes.{clients, slots, cells, era_stop, era_limit, count_limit}
 use Rattle.numbers.specs.declared.Slot.{Slot}
 use Rattle.header.specs.Header.{era_in, count_in, client_in, spare_in}
-use Rattle.block.specs.declared.Cell.{Cell}
 use Rattle.block.specs.declared.Entry.{Entry}
-use Rattle.block.specs.declared.Log.{Log}
 use Rattle.block.specs.declared.Operation.{Operation}
 use Rattle.block.specs.declared.Standing.{Standing}
-use Rattle.stages.specs.declared.Kept.{Kept}
-use Rattle.stages.specs.declared.Open.{Open}
 use Rattle.stages.specs.declared.Stage.{Stage}
-use Rattle.stages.specs.declared.perform.Asked.{Asked}
-use Rattle.stages.specs.Stages.{asked, entry_of, written, is_release, open_in, kept_in, releases}
+use Rattle.stages.specs.Stages.{asks_nothing, asked, entry_of, written, is_release, open_in, kept_in, releases}
 use Rattle.rescue.specs.declared.RescuerStep.{RescuerStep}
 use Rattle.calls.specs.declared.Records.{Records}
 use Rattle.calls.specs.Calls.{looked}
@@ -40,8 +36,8 @@ extra (some op) = 1
 -- a client's shared words, and the ghost
 pub record Words : Type 0 where
   pub row : ℕ → ℕ
-  pub cells : ℕ → Cell
-  pub log : Log
+  pub cells : ℕ → Option Slot
+  pub log : Option Entry
   pub won : Won
 
 -- all that is a client's: those words, its standing and its records
@@ -70,9 +66,9 @@ pub record Word (seen : ℕ → ℕ) (h : ℕ) : Type 0 where
   pub era : era_in h < seen (client_in h)
 
 -- a cell names a slot that there is
-abbrev pub CellFits : Cell → Type 0
-CellFits Cell.Empty = Unit {0}
-CellFits (Cell.Holds s) = s.0 < slots
+abbrev pub CellFits : Option Slot → Type 0
+CellFits None = Unit {0}
+CellFits (Some s) = s.0 < slots
 
 -- an operation names a cell and a slot that there are
 pub record OpFits (op : Operation) : Type 0 where
@@ -86,9 +82,9 @@ pub record EntryFits (e : Entry) : Type 0 where
   pub era : e.era.0 ≤ era_limit
 
 -- a log is none, or an entry that fits
-abbrev pub LogFits : Log → Type 0
-LogFits Log.Nothing = Unit {0}
-LogFits (Log.Wrote e) = EntryFits e
+abbrev pub LogFits : Option Entry → Type 0
+LogFits None = Unit {0}
+LogFits (Some e) = EntryFits e
 
 -- the header of slot s is c's, at its own era
 pub record Stands (hdr : ℕ → ℕ) (c own s : ℕ) : Type 0 where
@@ -104,25 +100,25 @@ pub record Witness (col : ℕ → ℕ) (c own start : ℕ) : Type 0 where
   pub saw : own ≤ col at
 
 -- a won swap is logged at the own era, and it stands in its header or another client has noted it
-pub record Proven (hdr : ℕ → ℕ) (col : ℕ → ℕ) (c own : ℕ) (log : Log) (op : Operation) : Type 0 where
+pub record Proven (hdr : ℕ → ℕ) (col : ℕ → ℕ) (c own : ℕ) (log : Option Entry) (op : Operation) : Type 0 where
   pub count : ℕ
-  pub logged : log ≡ Log.Wrote (record { operation = op; era = record { 0 = own }; count = count })
+  pub logged : log ≡ Some (record { operation = op; era = record { 0 = own }; count = count })
   pub evidence : Stands hdr c own op.slot.0 ⊎ Witness col c own 0
 
 -- where nothing is won there is nothing to show
-abbrev pub Evidence : (ℕ → ℕ) → (ℕ → ℕ) → ℕ → ℕ → Log → Won → Type 0
+abbrev pub Evidence : (ℕ → ℕ) → (ℕ → ℕ) → ℕ → ℕ → Option Entry → Won → Type 0
 Evidence hdr col c own log none = Unit {0}
 Evidence hdr col c own log (some op) = Proven hdr col c own log op
 
 -- what a cell will hold once the won operation is through
-abbrev pub due_by : Won → (ℕ → Cell) → ℕ → Cell
+abbrev pub due_by : Won → (ℕ → Option Slot) → ℕ → Option Slot
 due_by none held k = held k
 due_by (some op) held k = upd held op.cell (written op) k
 
 -- the slots in a cell: none or one
-abbrev pub in_cell : Cell → List ℕ
-in_cell Cell.Empty = []
-in_cell (Cell.Holds s) = s.0 ∷ []
+abbrev pub in_cell : Option Slot → List ℕ
+in_cell None = []
+in_cell (Some s) = s.0 ∷ []
 
 -- what holds of a client's words whatever is under way
 pub record Base (seen hdr col : ℕ → ℕ) (c : ℕ) (x : Words) (lines : List Line) : Type 0 where
@@ -135,9 +131,9 @@ pub record Base (seen hdr col : ℕ → ℕ) (c : ℕ) (x : Words) (lines : List
   pub due : (k : ℕ) → k < cells → slots_at c k lines ≡ in_cell (due_by x.won x.cells k)
 
 -- before its swap a release finds its slot in its cell; every other operation an empty cell, below the era stop
-abbrev pub Before : Bool → ℕ → Cell → Slot → Type 0
-Before true own held s = held ≡ Cell.Holds s
-Before false own held s = (held ≡ Cell.Empty) × (own < era_stop)
+abbrev pub Before : Bool → ℕ → Option Slot → Slot → Type 0
+Before true own held s = held ≡ Some s
+Before false own held s = (held ≡ None) × (own < era_stop)
 
 -- an operation of client c before its swap
 abbrev pub BeforeSwap : ℕ → Words → Operation → Type 0
@@ -148,32 +144,32 @@ abbrev pub Noted : (ℕ → ℕ) → ℕ → Type 0
 Noted row h = era_in h ≤ row (client_in h)
 
 -- what is under way names a cell and a slot that there are
-abbrev pub OpenFits : Open → Type 0
-OpenFits Open.Nothing = Unit {0}
-OpenFits (Open.Doing op) = OpFits op
+abbrev pub OpenFits : Option Operation → Type 0
+OpenFits None = Unit {0}
+OpenFits (Some op) = OpFits op
 
 -- what is kept is a header
-abbrev pub KeptFits : (ℕ → ℕ) → Kept → Type 0
-KeptFits seen Kept.Nothing = Unit {0}
-KeptFits seen (Kept.Word h) = Word seen h
+abbrev pub KeptFits : (ℕ → ℕ) → Option ℕ → Type 0
+KeptFits seen None = Unit {0}
+KeptFits seen (Some h) = Word seen h
 
 -- the open operation, where its swap is won
-abbrev pub won_of : Bool → Open → Won
+abbrev pub won_of : Bool → Option Operation → Won
 won_of false op = none
-won_of true Open.Nothing = none
-won_of true (Open.Doing op) = some op
+won_of true None = none
+won_of true (Some op) = some op
 
 -- what more is known of a client's words at each stage
 abbrev pub MoreAt : ℕ → Words → Stage → Type 0
 MoreAt c x Stage.Idle = Unit {0}
 MoreAt c x (Stage.Load op) = BeforeSwap c x op
-MoreAt c x (Stage.Note op h) = BeforeSwap c x op × (asked op h ≡ Asked.Nothing)
-MoreAt c x (Stage.Log op h) = BeforeSwap c x op × (asked op h ≡ Asked.Nothing) × Noted x.row h
+MoreAt c x (Stage.Note op h) = BeforeSwap c x op × (asked op h ≡ asks_nothing)
+MoreAt c x (Stage.Log op h) = BeforeSwap c x op × (asked op h ≡ asks_nothing) × Noted x.row h
 MoreAt c x (Stage.Swap op h) =
     BeforeSwap c x op
-    × (asked op h ≡ Asked.Nothing)
+    × (asked op h ≡ asks_nothing)
     × Noted x.row h
-    × (x.log ≡ Log.Wrote (entry_of op h (record { 0 = x.row c })))
+    × (x.log ≡ Some (entry_of op h (record { 0 = x.row c })))
 MoreAt c x (Stage.Cell op h) = Unit {0}
 MoreAt c x (Stage.Era op h) = x.cells op.cell ≡ written op
 
@@ -192,17 +188,17 @@ Awaited col c own start (some op) = Witness col c own start
 -- a client's words at each step of its rescue
 abbrev pub Rescuing : (ℕ → ℕ) → (ℕ → ℕ) → ℕ → Words → RescuerStep → Type 0
 Rescuing seen col c x RescuerStep.ReadLog = Unit {0}
-Rescuing seen col c x (RescuerStep.Condition1 e) = x.log ≡ Log.Wrote e
+Rescuing seen col c x (RescuerStep.Condition1 e) = x.log ≡ Some e
 Rescuing seen col c x (RescuerStep.Condition2 e j) =
-    (x.log ≡ Log.Wrote e) × (j.0 < clients) × (j.0 ≡ c → ⊥) × Awaited col c (x.row c) j.0 x.won
-Rescuing seen col c x (RescuerStep.Cell e) = (x.log ≡ Log.Wrote e) × (x.won ≡ some e.operation)
+    (x.log ≡ Some e) × (j.0 < clients) × (j.0 ≡ c → ⊥) × Awaited col c (x.row c) j.0 x.won
+Rescuing seen col c x (RescuerStep.Cell e) = (x.log ≡ Some e) × (x.won ≡ some e.operation)
 Rescuing seen col c x RescuerStep.Era =
     (op : Operation) × (x.won ≡ some op) × (x.cells op.cell ≡ written op) × OpFits op
 Rescuing seen col c x RescuerStep.Search = x.won ≡ none
 Rescuing seen col c x (RescuerStep.Release r) = (releases r.stage ≡ true) × At seen c x r.stage
 
 -- what a look up of a running client's cells shows
-abbrev pub Shown : ℕ → (ℕ → Cell) → List Line → Stage → Type 0
+abbrev pub Shown : ℕ → (ℕ → Option Slot) → List Line → Stage → Type 0
 Shown c held lines stage = (k : ℕ) → k < cells → shown_by c k lines ≡ looked stage (held k) k
 
 -- a client's words by its standing
@@ -211,7 +207,7 @@ Clause seen col c x lines Standing.Absent r =
     (r.client.stage ≡ Stage.Idle)
     × (r.rescuer.step ≡ RescuerStep.ReadLog)
     × (x.won ≡ none)
-    × ((k : ℕ) → k < cells → x.cells k ≡ Cell.Empty)
+    × ((k : ℕ) → k < cells → x.cells k ≡ None)
 Clause seen col c x lines Standing.Running r =
     (r.rescuer.step ≡ RescuerStep.ReadLog)
     × At seen c x r.client.stage

@@ -8,21 +8,18 @@ use native.Mathlib.Omega.{arith}
 use lib.Dec.{eqb, ltb, leb}
 use lib.ListN.{length, get_or, get_or-eq_default}
 use borrow.Author.Tests.{eq-eqb, ne_eqb, ltb-true, ltb-false, lt-ltb, le-leb}
+use Rattle.std.specs.List.{list_all, enumerate_from}
+use Rattle.std.specs.Prelude.{Option, Some, None}
 use Rattle.numbers.specs.Sizes.{clients, slots, cells, era_limit, count_limit}
 use Rattle.header.specs.Header.{era_in, count_in, client_in, spare_in}
 use Rattle.block.specs.declared.Entry.{Entry}
-use Rattle.block.specs.declared.Log.{Log}
-use Rattle.block.specs.declared.LogWord.{LogWord}
 use Rattle.block.specs.declared.Operation.{Operation}
 use Rattle.block.specs.declared.Standing.{Standing}
 use Rattle.block.specs.Block.{empty, all_cells, cell_in, cell_index, cell_at, log_at}
 use Rattle.block.specs.Matrix.{seen_era}
-use Rattle.stages.specs.declared.Kept.{Kept}
-use Rattle.stages.specs.declared.Open.{Open}
 use Rattle.stages.specs.declared.Stage.{Stage}
 use Rattle.stages.specs.Stages.{open_in, kept_in, releases}
 use Rattle.rescue.specs.declared.RescuerStep.{RescuerStep}
-use Rattle.limits.specs.Every.{every, every_from}
 use Rattle.limits.specs.Limits.{header_within, cell_within, operation_within, entry_within, log_within, block_within, row_within, eras_within, open_within, kept_within, stage_within, rescue_within, within}
 use Rattle.calls.specs.declared.Records.{Records}
 use Rattle.calls.specs.Calls.{nothing}
@@ -33,16 +30,25 @@ use Rattle.history.proofs.Invariant.{Won, Words, vis, column, Word, CellFits, Op
 use Rattle.history.proofs.View.{hdr_of, mine_of}
 use Rattle.history.proofs.Histories.{Good}
 
-module _ {A : Type 0} where
+module _ {A : Type 0} (d : A) where
   -- every element passes where each does at its place
-  every_from_lem :
-      (test : ℕ → A → Bool) (d : A) (xs : List A) (i : ℕ) →
-      ((n : ℕ) → n < length xs → (p : ℕ) → p ≡ i + n → test p (get_or xs n d) ≡ true) →
-      every_from test i xs ≡ true
-  every_from_lem test d [] i h = refl
-  every_from_lem test d (x ∷ xs) i h =
-      and_both (test i x) (every_from test (i + 1) xs) (h 0 (omega arith) i (omega arith))
-      (every_from_lem test d xs (i + 1) (λ n l p e. h (suc n) (omega arith) p (omega arith)))
+  all_pass :
+      (test : A → Bool) (xs : List A) →
+      ((n : ℕ) → n < length xs → test (get_or xs n d) ≡ true) →
+      list_all test xs ≡ true
+  all_pass test [] h = refl
+  all_pass test (x ∷ xs) h =
+      and_both (test x) (list_all test xs) (h 0 (omega arith)) (all_pass test xs (λ n l. h (suc n) (omega arith)))
+
+  -- and of a test that sees the place too
+  all_placed_pass :
+      (test : ℕ × A → Bool) (xs : List A) (i : ℕ) →
+      ((n : ℕ) → n < length xs → (p : ℕ) → p ≡ i + n → test (p, get_or xs n d) ≡ true) →
+      list_all test (enumerate_from i xs) ≡ true
+  all_placed_pass test [] i h = refl
+  all_placed_pass test (x ∷ xs) i h =
+      and_both (test (i, x)) (list_all test (enumerate_from (i + 1) xs)) (h 0 (omega arith) i (omega arith))
+      (all_placed_pass test xs (i + 1) (λ n l p e. h (suc n) (omega arith) p (omega arith)))
 
 -- a header of a history is within its limits
 header_within_lem :
@@ -70,9 +76,9 @@ entry_within_lem e f =
     (rw (le-leb e.count count_limit f.count, le-leb e.era.0 era_limit f.era))
 
 -- a log that fits is within its limits
-log_within_lem : (l : Log) → LogFits l → log_within l ≡ true
-log_within_lem Log.Nothing f = refl
-log_within_lem (Log.Wrote e) f = entry_within_lem e f
+log_within_lem : (l : Option Entry) → LogFits l → log_within l ≡ true
+log_within_lem None f = refl
+log_within_lem (Some e) f = entry_within_lem e f
 
 -- the byte of a cell that fits is within its limits
 byte_within : (byte : ℕ) → CellFits (cell_in byte) → cell_within byte ≡ true
@@ -84,14 +90,14 @@ byte_within byte f =
 module _ (seen : ℕ → ℕ) (few : (c : ℕ) → c < clients → seen c ≤ era_limit) (c : ℕ) (x : Words) (fits : LogFits x.log)
   where
     -- an open operation that fits is within its limits
-    open_within_lem : (o : Open) → OpenFits o → open_within o ≡ true
-    open_within_lem Open.Nothing f = refl
-    open_within_lem (Open.Doing op) f = op_within op f
+    open_within_lem : (o : Option Operation) → OpenFits o → open_within o ≡ true
+    open_within_lem None f = refl
+    open_within_lem (Some op) f = op_within op f
 
     -- a kept header is within its limits
-    kept_within_lem : (k : Kept) → KeptFits seen k → kept_within k ≡ true
-    kept_within_lem Kept.Nothing f = refl
-    kept_within_lem (Kept.Word h) f = header_within_lem seen few h f
+    kept_within_lem : (k : Option ℕ) → KeptFits seen k → kept_within k ≡ true
+    kept_within_lem None f = refl
+    kept_within_lem (Some h) f = header_within_lem seen few h f
 
     -- a stage is within its limits
     at_within : (stage : Stage) → At seen c x stage → stage_within stage ≡ true
@@ -101,7 +107,7 @@ module _ (seen : ℕ → ℕ) (few : (c : ℕ) → c < clients → seen c ≤ er
         (kept_within_lem (kept_in stage) t.kept)
 
     -- the log that a rescuer keeps is within its limits
-    in_log : (e : Entry) → x.log ≡ Log.Wrote e → entry_within e ≡ true
+    in_log : (e : Entry) → x.log ≡ Some e → entry_within e ≡ true
     in_log e q = entry_within_lem e (rw q at fits)
 
     -- a step of a rescue is within its limits
@@ -134,16 +140,16 @@ module _ (w : World) (ghosts : ℕ → Won) (lines : List Line) (good : Good w g
   few_eras c l = let r = (good.inv.base c l).room in omega arith
 
   -- every header is within its limits
-  headers_within : every header_within w.block.headers ≡ true
+  headers_within : list_all header_within w.block.headers ≡ true
   headers_within =
-      every_from_lem (λ i. header_within) 0 w.block.headers 0
-      (λ n l p e. header_within_lem (vis (mine_of w ghosts)) few_eras (hdr_of w n) (good.inv.words n))
+      all_pass 0 header_within w.block.headers
+      (λ n l. header_within_lem (vis (mine_of w ghosts)) few_eras (hdr_of w n) (good.inv.words n))
 
   -- every cell is within its limits
-  cells_within : every cell_within w.block.cells ≡ true
+  cells_within : list_all cell_within w.block.cells ≡ true
   cells_within =
-      every_from_lem (λ i. cell_within) empty w.block.cells 0
-      (λ n l p e. byte_within (get_or w.block.cells n empty) (at n (let s = good.shape.bytes in omega arith)))
+      all_pass empty cell_within w.block.cells
+      (λ n l. byte_within (get_or w.block.cells n empty) (at n (let s = good.shape.bytes in omega arith)))
     where
       at : (n : ℕ) → n < all_cells → CellFits (cell_in (get_or w.block.cells n empty))
       at n l =
@@ -156,10 +162,10 @@ module _ (w : World) (ghosts : ℕ → Won) (lines : List Line) (good : Good w g
           rw q at g
 
   -- every log is within its limits
-  logs_within : every (λ (v : LogWord). log_within v.log) w.block.logs ≡ true
+  logs_within : list_all log_within w.block.logs ≡ true
   logs_within =
-      every_from_lem (λ i v. log_within v.log) (record { log = Log.Nothing }) w.block.logs 0
-      (λ n l p e.
+      all_pass None log_within w.block.logs
+      (λ n l.
       log_within_lem (log_at w.block.logs n) (good.inv.base n (let s = good.shape.logs in omega arith)).log)
 
   -- the block is within its limits
@@ -171,10 +177,10 @@ module _ (w : World) (ghosts : ℕ → Won) (lines : List Line) (good : Good w g
   row_within_lem : (i : ℕ) → i < clients → row_within i (get_or w.eras i []) ≡ true
   unfolding row_within
   row_within_lem i l =
-      and_both (ltb 0 (seen_era w.eras i i).0) (every (λ (e : ℕ). leb e era_limit) (get_or w.eras i []))
+      and_both (ltb 0 (seen_era w.eras i i).0) (list_all (λ (e : ℕ). leb e era_limit) (get_or w.eras i []))
       (lt-ltb 0 (seen_era w.eras i i).0 (good.inv.base i l).own_some)
-      (every_from_lem (λ p e. leb e era_limit) 0 (get_or w.eras i []) 0
-      (λ n m p e. le-leb _ era_limit (entry n (let s = good.shape.rows i l in omega arith))))
+      (all_pass 0 (λ (e : ℕ). leb e era_limit) (get_or w.eras i [])
+      (λ n m. le-leb _ era_limit (entry n (let s = good.shape.rows i l in omega arith))))
     where
       entry : (n : ℕ) → n < clients → (seen_era w.eras i n).0 ≤ era_limit
       entry n m =
@@ -185,7 +191,7 @@ module _ (w : World) (ghosts : ℕ → Won) (lines : List Line) (good : Good w g
   -- the matrix is within its limits
   eras_within_lem : eras_within w.eras ≡ true
   eras_within_lem =
-      every_from_lem row_within [] w.eras 0
+      all_placed_pass [] (λ (p : ℕ × List ℕ). row_within p.0 p.1) w.eras 0
       (λ n l p e. let q : p ≡ n = omega arith in rw q (row_within_lem n (let s = good.shape.eras in omega arith)))
 
   -- the records that a call is given are within their limits, even of a client that there is none

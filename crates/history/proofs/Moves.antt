@@ -8,14 +8,14 @@ use mathlib.Core.Path.{◌≡◌, refl, sym, ap, ◌∙◌}
 use native.Mathlib.Omega.{arith}
 use native.Mathlib.Nat.{le_refl}
 use lib.ListN.{length}
+use Rattle.std.specs.Prelude.{Option, Some, None}
 use Rattle.numbers.specs.Sizes.{clients, slots, cells, era_limit, count_limit}
 use Rattle.header.specs.declared.Fields.{Fields}
 use Rattle.header.specs.Header.{era_in, count_in, client_in}
 use Rattle.header.proofs.Laws.{Narrow, era_packed, count_packed, client_packed, spare_packed}
-use Rattle.block.specs.declared.Cell.{Cell}
 use Rattle.block.specs.declared.Entry.{Entry}
-use Rattle.block.specs.declared.Log.{Log}
 use Rattle.block.specs.declared.Operation.{Operation}
+use Rattle.numbers.specs.declared.Slot.{Slot}
 use Rattle.stages.specs.Stages.{count_after, entry_of, is_release, swapped, written}
 use Rattle.stages.proofs.ByKind.{written_release, written_entry}
 use Rattle.calls.specs.Calls.{client}
@@ -37,9 +37,9 @@ pub record Now (seen hdr col : ℕ → ℕ) (a : ℕ) (x : Words) (lines : List 
   pub column : (j : ℕ) → j < clients → (j ≡ a → ⊥) → col j < seen a
 
 -- a cell holds at most one slot
-few_in : (held : Cell) → length (in_cell held) ≤ 1
-few_in Cell.Empty = omega arith
-few_in (Cell.Holds s) = omega arith
+few_in : (held : Option Slot) → length (in_cell held) ≤ 1
+few_in None = omega arith
+few_in (Some s) = omega arith
 
 -- the invariant gives what a move begins with
 pub now :
@@ -150,7 +150,7 @@ module _ {seen hdr col : ℕ → ℕ} {a : ℕ} {x : Words} {lines : List Line} 
       (e : Entry) →
       EntryFits e →
       x.won ≡ none →
-      Move seen hdr col a x lines hdr (record { row = x.row; cells = x.cells; log = Log.Wrote e; won = x.won }) lines
+      Move seen hdr col a x lines hdr (record { row = x.row; cells = x.cells; log = Some e; won = x.won }) lines
       0
   move_log e fits yet =
       let k = nw.base in
@@ -226,7 +226,7 @@ module _ {seen hdr col : ℕ → ℕ} {a : ℕ} {x : Words} {lines : List Line} 
       (small : count_after op.kind (count_in h) ≤ count_limit + 1)
       (stands : hdr op.slot.0 ≡ h)
       (seen_it : Noted x.row h)
-      (in_log : x.log ≡ Log.Wrote (entry_of op h (record { 0 = x.row a })))
+      (in_log : x.log ≡ Some (entry_of op h (record { 0 = x.row a })))
       (others : (d : ℕ) → (d ≡ a → ⊥) → Alike d lines after)
       (ranged : Ranged after)
       (here : count_after op.kind (count_in h) ≡ naming op.slot.0 after)

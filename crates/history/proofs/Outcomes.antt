@@ -6,15 +6,16 @@ use mathlib.Core.List.{List, [], ◌∷◌}
 use mathlib.Core.Path.{◌≡◌, refl, ap, ◌∙◌}
 use lib.Seq.{set-get_or}
 use borrow.Author.Tests.{ltb-true}
+use Rattle.std.specs.Prelude.{Option, Some, None}
 use Rattle.numbers.specs.Sizes.{clients}
 use Rattle.numbers.specs.declared.answers.Answer.{Answer}
-use Rattle.stages.specs.declared.Open.{Open}
 use Rattle.stages.specs.declared.Stage.{Stage}
 use Rattle.stages.specs.Stages.{won, is_release, open_in, idle}
 use Rattle.limits.specs.Limits.{within}
 use Rattle.calls.specs.declared.Call.{Call}
 use Rattle.calls.specs.declared.Records.{Records}
-use Rattle.calls.specs.declared.Outcome.{Outcome}
+use Rattle.stages.specs.declared.Outcome.{Outcome}
+use Rattle.block.specs.declared.Operation.{Operation}
 use Rattle.calls.specs.Checks.{Check, after_checks, unchanged}
 use Rattle.calls.specs.Calls.{nothing, checks, effect, plain_call, checked_call, stage_of}
 use Rattle.world.specs.World.{World, outcome, after_by, after}
@@ -23,14 +24,14 @@ use Rattle.history.proofs.Updates.{by_test, and_left, and_right, not_both}
 use Rattle.history.proofs.View.{hdr_of, placed}
 
 -- where all checks pass the outcome is the effect
-all_pass_lem : (cs : List Check) (given : Records) (o : Outcome) → all_pass cs ≡ true → after_checks cs given o ≡ o
+all_pass_lem : (cs : List Check) (given : Records) (o : Outcome Records) → all_pass cs ≡ true → after_checks cs given o ≡ o
 all_pass_lem [] given o e = refl
 all_pass_lem (ch ∷ cs) given o e =
     rw (and_left ch.passes (all_pass cs) e) (all_pass_lem cs given o (and_right ch.passes (all_pass cs) e))
 
 -- where a check does not pass nothing changes
 some_fails :
-    (cs : List Check) (given : Records) (o : Outcome) →
+    (cs : List Check) (given : Records) (o : Outcome Records) →
     all_pass cs ≡ false →
     (ans : Answer) × (after_checks cs given o ≡ unchanged ans given)
 some_fails [] given o e = not_both true refl e
@@ -43,22 +44,22 @@ some_fails (ch ∷ cs) given o e =
 
 -- where something was under way a call opens nothing
 pub none_opened :
-    (c : ℕ) (before : Stage) (after : Open) (lines : List Line) →
+    (c : ℕ) (before : Stage) (after : Option Operation) (lines : List Line) →
     idle before ≡ false →
     opened_by c before after lines ≡ lines
-none_opened c before Open.Nothing lines e = refl
-none_opened c before (Open.Doing op) lines e = rw (e, and-false (is_release op.kind))
+none_opened c before None lines e = refl
+none_opened c before (Some op) lines e = rw (e, and-false (is_release op.kind))
 
 -- a call that leaves the stage opens nothing
 pub same_opened : (c : ℕ) (stage : Stage) (lines : List Line) → opened_by c stage (open_in stage) lines ≡ lines
 same_opened c stage lines = by_open (open_in stage) refl
   where
-    by_open : (o : Open) → open_in stage ≡ o → opened_by c stage o lines ≡ lines
-    by_open Open.Nothing e = refl
-    by_open (Open.Doing op) e = none_opened c stage (Open.Doing op) lines (rw e)
+    by_open : (o : Option Operation) → open_in stage ≡ o → opened_by c stage o lines ≡ lines
+    by_open None e = refl
+    by_open (Some op) e = none_opened c stage (Some op) lines (rw e)
 
 -- what a call does once it is accepted
-abbrev pub effect_of : World → Call → Outcome
+abbrev pub effect_of : World → Call → Outcome Records
 effect_of w call = effect call.act call.client w.block w.eras (given_to w call)
 
 -- the checks of a call
@@ -73,7 +74,7 @@ limits_of w call =
 -- what the ledger makes of an accepted call
 abbrev pub lines_after : World → Call → List Line → List Line
 lines_after w call lines =
-    opened_by call.client (given_to w call).client.stage (open_in (effect_of w call).records.client.stage)
+    opened_by call.client (given_to w call).client.stage (open_in (effect_of w call).next.client.stage)
     (by_stage won (hdr_of w) call.client (stage_of call.act (given_to w call)) lines)
 
 module _ (w : World) (call : Call) where
@@ -99,15 +100,15 @@ module _ (w : World) (call : Call) where
   -- the world of an accepted call
   pub after_accepted :
       accepts w call ≡ true →
-      after w call ≡ placed w (effect_of w call).store call.client (effect_of w call).records
+      after w call ≡ placed w (effect_of w call).store call.client (effect_of w call).next
   unfolding after_by
-  after_accepted e = ap (λ (o : Outcome). placed w o.store call.client o.records) (accepted_is e)
+  after_accepted e = ap (λ (o : Outcome Records). placed w o.store call.client o.next) (accepted_is e)
 
   -- a refused call leaves the world
   pub after_refused : accepts w call ≡ false → after w call ≡ w
   unfolding after_by
   after_refused e =
-      ap (λ (o : Outcome). placed w o.store call.client o.records) (refused_is e).1
+      ap (λ (o : Outcome Records). placed w o.store call.client o.next) (refused_is e).1
       ∙ (λ i. record { block = w.block; eras = w.eras; records = set-get_or w.records call.client nothing i })
 
   -- the stage that an accepted call performs

@@ -8,24 +8,23 @@ use mathlib.Core.Path.{◌≡◌, refl, sym, ap, ◌∙◌}
 use native.Mathlib.Omega.{arith}
 use lib.Dec.{eqb, ltb, leb}
 use borrow.Author.Tests.{eq-eqb, eqb-true, eqb-false, ltb-true, ltb-false, leb-true, leb-false}
+use Rattle.std.specs.Prelude.{Option, Some, None}
 use Rattle.numbers.specs.Sizes.{clients, slots, cells, raised}
 use Rattle.numbers.specs.declared.answers.Answer.{Answer}
 use Rattle.header.specs.Header.{era_in, client_in}
-use Rattle.block.specs.declared.Cell.{Cell}
 use Rattle.block.specs.declared.Entry.{Entry}
-use Rattle.block.specs.declared.Log.{Log}
 use Rattle.block.specs.declared.Operation.{Operation}
 use Rattle.block.specs.declared.Standing.{Standing}
 use Rattle.block.specs.declared.store.Store.{Store}
 use Rattle.block.specs.Block.{cell_at}
 use Rattle.stages.specs.declared.ClientRecord.{ClientRecord}
 use Rattle.stages.specs.declared.Stage.{Stage}
-use Rattle.stages.specs.declared.Stepped.{Stepped}
+use Rattle.stages.specs.declared.Outcome.{Outcome}
 use Rattle.stages.specs.Stages.{won, written, open_in, idle, releases, step_by}
 use Rattle.stages.proofs.Cases.{stage_idle, going_answers}
-use Rattle.rescue.specs.declared.search.Found.{Found}
 use Rattle.rescue.specs.declared.RescuerStep.{RescuerStep}
-use Rattle.rescue.specs.declared.Rescued.{Rescued}
+use Rattle.numbers.specs.declared.Slot.{Slot}
+use Rattle.rescue.specs.declared.RescuerRecord.{RescuerRecord}
 use Rattle.rescue.specs.Search.{lowest_from, lowest_full, found_at}
 use Rattle.rescue.specs.Rescue.{onto, read_log, from_row, onward, swap_stands, first_condition, second_condition, write_cell, raise_era, searched, as_rescue, rescue_by, release_stage}
 use Rattle.calls.specs.Calls.{client}
@@ -39,39 +38,39 @@ use Rattle.history.proofs.Stores.{hdr_after, words_after, standing_after, Ours}
 use Rattle.history.proofs.Steps.{Took, era_up, taken}
 
 -- what a search of the cells finds
-abbrev pub Finds : (ℕ → Cell) → Found → Type 0
-Finds held Found.Nothing = (k : ℕ) → k < cells → held k ≡ Cell.Empty
-Finds held (Found.At k s) = (k < cells) × (held k ≡ Cell.Holds s)
+abbrev pub Finds : (ℕ → Option Slot) → Option (ℕ × Slot) → Type 0
+Finds held None = (k : ℕ) → k < cells → held k ≡ None
+Finds held (Some (k, s)) = (k < cells) × (held k ≡ Some s)
 
 module _ (bytes : List ℕ) (c : ℕ) where
   -- the search from cell k on, the cells before it empty
   finds_from :
       (n k : ℕ) →
       n + k ≡ cells →
-      ((j : ℕ) → j < k → cell_at bytes c j ≡ Cell.Empty) →
+      ((j : ℕ) → j < k → cell_at bytes c j ≡ None) →
       Finds (cell_at bytes c) (lowest_from bytes c n k)
   unfolding lowest_from
   finds_from ℕ.zero k e before = λ j l. before j (omega arith)
   finds_from (ℕ.suc n) k e before =
       looks (cell_at bytes c k) refl
-      (λ (q : cell_at bytes c k ≡ Cell.Empty).
+      (λ (q : cell_at bytes c k ≡ None).
       finds_from n (k + 1) (omega arith)
       (λ j l. by_equal j k (λ (p : j ≡ k). rw p q) (λ (o : j ≡ k → ⊥). before j (omega arith))))
     where
       looks :
-          (held : Cell) →
+          (held : Option Slot) →
           cell_at bytes c k ≡ held →
-          (cell_at bytes c k ≡ Cell.Empty → Finds (cell_at bytes c) (lowest_from bytes c n (k + 1))) →
+          (cell_at bytes c k ≡ None → Finds (cell_at bytes c) (lowest_from bytes c n (k + 1))) →
           Finds (cell_at bytes c) (found_at k held (lowest_from bytes c n (k + 1)))
-      looks Cell.Empty q rest = rest q
-      looks (Cell.Holds s) q rest = (omega arith, q)
+      looks None q rest = rest q
+      looks (Some s) q rest = (omega arith, q)
 
   -- the search of all cells
   pub finds : Finds (cell_at bytes c) (lowest_full bytes c)
   finds = finds_from cells 0 (omega arith) (λ j l. absurd (omega arith))
 
 -- a rescue step, taken: its store is a's own, it is a move, what holds at the next step, and what a 100 tells
-pub record Helped (seen hdr col : ℕ → ℕ) (a : ℕ) (x : Words) (lines : List Line) (s : Rescued) (after : List Line)
+pub record Helped (seen hdr col : ℕ → ℕ) (a : ℕ) (x : Words) (lines : List Line) (s : Outcome RescuerRecord) (after : List Line)
     (n : ℕ) : Type 0 where
   pub ghost : Won
   pub ours : Ours a s.store
@@ -83,7 +82,7 @@ pub record Helped (seen hdr col : ℕ → ℕ) (a : ℕ) (x : Words) (lines : Li
       (record { client = r; rescuer = s.next })
   pub done :
       s.answer ≡ Answer.Finished →
-      (x.won ≡ none) × ((k : ℕ) → k < cells → x.cells k ≡ Cell.Empty) ×
+      (x.won ≡ none) × ((k : ℕ) → k < cells → x.cells k ≡ None) ×
       (s.store ≡ Store.Standing (client a) Standing.Absent)
 
 -- 0 is not 100
@@ -151,20 +150,20 @@ module _ {seen hdr col : ℕ → ℕ} {a : ℕ} {x : Words} {lines : List Line} 
       later v o = let l = v.later in omega arith
 
   -- R4.1: with no log nothing is won
-  read_log_lem : (l : Log) → x.log ≡ l → Helped seen hdr col a x lines (read_log l) lines 0
-  read_log_lem Log.Nothing e =
+  read_log_lem : (l : Option Entry) → x.log ≡ l → Helped seen hdr col a x lines (read_log l) lines 0
+  read_log_lem None e =
       reads RescuerStep.Search
       (by_won (λ q. q) (λ op q. let w = (log_won op q).logged in absurd (let z : ◌≡◌ {A = ℕ} 0 1 = cc in omega arith)))
-  read_log_lem (Log.Wrote e) q = reads (RescuerStep.Condition1 e) q
+  read_log_lem (Some e) q = reads (RescuerStep.Condition1 e) q
 
-  module _ (e : Entry) (in_log : x.log ≡ Log.Wrote e) where
+  module _ (e : Entry) (in_log : x.log ≡ Some e) where
     -- the operation won is the logged one
     same_op : (op : Operation) → x.won ≡ some op → op ≡ e.operation
-    same_op op q = ap (λ (l : Log). operation_in l) (sym (log_won op q).logged ∙ in_log)
+    same_op op q = ap (λ (l : Option Entry). operation_in l) (sym (log_won op q).logged ∙ in_log)
       where
-        operation_in : Log → Operation
-        operation_in Log.Nothing = op
-        operation_in (Log.Wrote f) = f.operation
+        operation_in : Option Entry → Operation
+        operation_in None = op
+        operation_in (Some f) = f.operation
 
     -- an era of a's that somebody holds and that is not below its own: the swap was won
     was_won : (era : ℕ) → x.row a ≤ era → era < seen a → x.won ≡ some e.operation
@@ -299,11 +298,11 @@ module _ {seen hdr col : ℕ → ℕ} {a : ℕ} {x : Words} {lines : List Line} 
 
   -- R4.6: the search
   search_cells :
-      (found : Found) →
+      (found : Option (ℕ × Slot)) →
       Finds x.cells found →
       x.won ≡ none →
       Helped seen hdr col a x lines (searched (client a) found) lines 0
-  search_cells Found.Nothing f yet =
+  search_cells None f yet =
       record {
         ghost = x.won;
         ours = refl;
@@ -311,7 +310,7 @@ module _ {seen hdr col : ℕ → ℕ} {a : ℕ} {x : Words} {lines : List Line} 
         then = λ c q. (q, refl, yet, f);
         done = λ q. (yet, f, refl);
       }
-  search_cells (Found.At k s) f yet =
+  search_cells (Some (k, s)) f yet =
       reads _
       (refl, record { fits = record { cell = f.0; slot = held }; kept = tt; won_is = yet; more = f.1 })
     where
@@ -320,7 +319,7 @@ module _ {seen hdr col : ℕ → ℕ} {a : ℕ} {x : Words} {lines : List Line} 
 
   -- R4.6: a stage of the opened release
   release_stage_lem :
-      (at : Stage) (s : Stepped) (after : List Line) (n : ℕ) →
+      (at : Stage) (s : Outcome ClientRecord) (after : List Line) (n : ℕ) →
       releases at ≡ true →
       (idle s.next.stage ≡ false → s.answer ≡ Answer.Finished → ⊥) →
       Took seen hdr col a x lines at s after n →
@@ -355,7 +354,7 @@ module _ {seen hdr col : ℕ → ℕ} {a : ℕ} {x : Words} {lines : List Line} 
 
   -- every step of a rescue
   pub helped :
-      (found : Found) →
+      (found : Option (ℕ × Slot)) →
       Finds x.cells found →
       (step : RescuerStep) →
       Rescuing seen col a x step →

@@ -8,17 +8,17 @@ use native.Mathlib.Omega.{arith}
 use native.Mathlib.Nat.{le_refl, zero-add}
 use lib.Dec.{ltb}
 use borrow.Author.Tests.{eq-eqb, ne_eqb, eqb-true, ltb-true, ltb-false}
+use Rattle.std.specs.Prelude.{Some, None, Err}
 use Rattle.numbers.specs.Sizes.{clients, cells, era_stop, era_limit, raised}
 use Rattle.numbers.specs.declared.answers.Answer.{Answer}
 use Rattle.header.specs.Header.{era_in, count_in, client_in}
-use Rattle.block.specs.declared.Cell.{Cell}
 use Rattle.block.specs.declared.Operation.{Operation}
 use Rattle.block.specs.declared.Standing.{Standing}
 use Rattle.block.specs.declared.store.Store.{Store}
 use Rattle.stages.specs.declared.Stage.{Stage}
-use Rattle.stages.specs.declared.Stepped.{Stepped}
-use Rattle.stages.specs.declared.perform.Asked.{Asked}
-use Rattle.stages.specs.Stages.{went, closed, asked, entry_of, note_stage, log_stage, count_after, swapped, won, swap_won, swap_lost, cell_stage, era_stage, written, is_release, idle, releasing, releases, step_by}
+use Rattle.stages.specs.declared.Outcome.{Outcome}
+use Rattle.stages.specs.declared.ClientRecord.{ClientRecord}
+use Rattle.stages.specs.Stages.{asks_nothing, went, closed, asked, entry_of, note_stage, log_stage, count_after, swapped, won, swap_won, swap_lost, cell_stage, era_stage, written, is_release, idle, releasing, releases, step_by}
 use Rattle.stages.proofs.ByKind.{asked_refuses, count_entered, count_struck, written_release, written_entry}
 use Rattle.stages.proofs.Cases.{step_cases}
 use Rattle.calls.specs.Calls.{client, looked}
@@ -32,7 +32,7 @@ use Rattle.history.proofs.Stores.{hdr_after, words_after, standing_after, Ours}
 
 -- a stage `at`, taken: its store is a's own and leaves the standing, it is a move, what holds at the next stage and
 -- what is shown there, and an operation that goes on is a release where it was one
-pub record Took (seen hdr col : ℕ → ℕ) (a : ℕ) (x : Words) (lines : List Line) (at : Stage) (s : Stepped)
+pub record Took (seen hdr col : ℕ → ℕ) (a : ℕ) (x : Words) (lines : List Line) (at : Stage) (s : Outcome ClientRecord)
     (after : List Line) (n : ℕ) : Type 0 where
   pub ghost : Won
   pub ours : Ours a s.store
@@ -73,7 +73,7 @@ module _ {seen hdr col : ℕ → ℕ} {a : ℕ} {x : Words} {lines : List Line} 
   -- load: the header is kept
   load_kept :
       (op : Operation) →
-      asked op (hdr op.slot.0) ≡ Asked.Nothing →
+      asked op (hdr op.slot.0) ≡ asks_nothing →
       At seen a x (Stage.Load op) →
       Took seen hdr col a x lines (Stage.Load op)
       (went Answer.Accepted (Stage.Note op (hdr op.slot.0)) Store.Nothing) lines 0
@@ -87,7 +87,7 @@ module _ {seen hdr col : ℕ → ℕ} {a : ℕ} {x : Words} {lines : List Line} 
   -- load: the operation is closed, and it was no release
   load_refused :
       (op : Operation) (answer : Answer) →
-      asked op (hdr op.slot.0) ≡ Asked.Refuses answer →
+      asked op (hdr op.slot.0) ≡ Err answer →
       At seen a x (Stage.Load op) →
       Took seen hdr col a x lines (Stage.Load op) (closed answer) lines 0
   unfolding looked
@@ -214,7 +214,7 @@ module _ {seen hdr col : ℕ → ℕ} {a : ℕ} {x : Words} {lines : List Line} 
     -- a line is entered
     enters :
         is_release op.kind ≡ false →
-        (x.cells op.cell ≡ Cell.Empty) × (x.row a < era_stop) →
+        (x.cells op.cell ≡ None) × (x.row a < era_stop) →
         Won_move (line_of a op ∷ lines)
     enters r before =
         let e : count_after op.kind (count_in h) ≡ count_in h + 1 = count_entered op.kind h r t.more.1 in
@@ -233,7 +233,7 @@ module _ {seen hdr col : ℕ → ℕ} {a : ℕ} {x : Words} {lines : List Line} 
         (λ j o b. slots_beside a op lines a j (λ p q. o q) ∙ lines_now j b))
 
     -- a line is struck out
-    strikes : is_release op.kind ≡ true → x.cells op.cell ≡ Cell.Holds op.slot → Won_move (struck a op lines)
+    strikes : is_release op.kind ≡ true → x.cells op.cell ≡ Some op.slot → Won_move (struck a op lines)
     strikes r full =
         let e : count_after op.kind (count_in h) ≡ count_in h - 1 = count_struck op.kind (count_in h) r in
         move_swap nw op h (struck a op lines) t.won_is (let c = t.kept.count in omega arith) stands t.more.2
@@ -377,7 +377,7 @@ module _ {seen hdr col : ℕ → ℕ} {a : ℕ} {x : Words} {lines : List Line} 
         (λ (r : releasing (Stage.Era op h) j ≡ true). rw (r, emptied r))
         (λ (r : releasing (Stage.Era op h) j ≡ false). rw r)
       where
-        emptied : releasing (Stage.Era op h) j ≡ true → x.cells j ≡ Cell.Empty
+        emptied : releasing (Stage.Era op h) j ≡ true → x.cells j ≡ None
         emptied =
             by_test (is_release op.kind)
             (λ (r : is_release op.kind ≡ true).

@@ -2,11 +2,12 @@
 -- Assumes nothing.
 use Prim.Native.Nat.{ℕ, ◌<◌}
 use mathlib.Core.Path.{◌≡◌}
+use Rattle.std.specs.Prelude.{Option, Some}
 use Rattle.numbers.specs.Sizes.{clients, slots, cells}
-use Rattle.block.specs.declared.Cell.{Cell}
-use Rattle.block.specs.declared.Log.{Log}
 use Rattle.block.specs.declared.Standing.{Standing}
 use Rattle.block.specs.declared.store.Store.{Store}
+use Rattle.block.specs.declared.Entry.{Entry}
+use Rattle.numbers.specs.declared.Slot.{Slot}
 use Rattle.history.proofs.Updates.{upd}
 use Rattle.history.proofs.Invariant.{Won, Words, CellFits}
 
@@ -15,8 +16,8 @@ use Rattle.history.proofs.Invariant.{Won, Words, CellFits}
 pub record Change : Type 1 where
   pub headers : (ℕ → ℕ) → ℕ → ℕ
   pub row : (ℕ → ℕ) → ℕ → ℕ
-  pub held : (ℕ → Cell) → ℕ → Cell
-  pub log : Log → Log
+  pub held : (ℕ → Option Slot) → ℕ → Option Slot
+  pub log : Option Entry → Option Entry
   pub standing : Standing → Standing
   pub ours : ℕ → Type 0
 
@@ -24,8 +25,8 @@ pub record Change : Type 1 where
 abbrev changing :
     ((ℕ → ℕ) → ℕ → ℕ) →
     ((ℕ → ℕ) → ℕ → ℕ) →
-    ((ℕ → Cell) → ℕ → Cell) →
-    (Log → Log) →
+    ((ℕ → Option Slot) → ℕ → Option Slot) →
+    (Option Entry → Option Entry) →
     (Standing → Standing) →
     (ℕ → Type 0) →
     Change
@@ -42,7 +43,7 @@ changes Store.Nothing = changing same same same same same (λ a. Unit {0})
 changes (Store.Header s h) = changing (λ hdr. upd hdr s.0 h) same same same same (λ a. s.0 < slots)
 changes (Store.Cell c k held) =
     changing same same (λ f. upd f k held) same same (λ a. (c.0 ≡ a) × (k < cells) × CellFits held)
-changes (Store.Log c e) = changing same same same (λ l. Log.Wrote e) same (λ a. c.0 ≡ a)
+changes (Store.Log c e) = changing same same same (λ l. Some e) same (λ a. c.0 ≡ a)
 changes (Store.Era i j e) =
     changing same (λ row. upd row j.0 e.0) same same same (λ a. (i.0 ≡ a) × (j.0 < clients))
 changes (Store.Standing c s) = changing same same same same (λ t. s) (λ a. c.0 ≡ a)

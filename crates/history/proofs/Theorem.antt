@@ -15,7 +15,8 @@ use Rattle.block.specs.Block.{cell_at}
 use Rattle.stages.specs.Stages.{is_idle}
 use Rattle.calls.specs.declared.Act.{Act}
 use Rattle.calls.specs.declared.Call.{Call}
-use Rattle.calls.specs.declared.Outcome.{Outcome}
+use Rattle.stages.specs.declared.Outcome.{Outcome}
+use Rattle.calls.specs.declared.Records.{Records}
 use Rattle.calls.specs.Checks.{Check, same_standing, stands, is_empty, refused}
 use Rattle.calls.specs.Calls.{asks, effect, plain_call, checked_call}
 use Rattle.calls.specs.Named.{of, release, look_up}
@@ -40,7 +41,7 @@ other_standing asked found o =
 module _ (w : World) (ghosts : ℕ → Won) (lines : List Line) (good : Good w ghosts lines) where
   -- what a call answers whose checks pass
   answers : (call : Call) → Passed (checks_of w call) → answer w call ≡ (effect_of w call).answer
-  answers call p = ap (λ (o : Outcome). o.answer) (accepted_is w call (accepts_it w ghosts lines good call p))
+  answers call p = ap (λ (o : Outcome Records). o.answer) (accepted_is w call (accepts_it w ghosts lines good call p))
 
   -- the look up of a running client shows what the ledger says
   looks :
@@ -72,7 +73,7 @@ module _ (w : World) (ghosts : ℕ → Won) (lines : List Line) (good : Good w g
   -- no call of a history answers 11
   never : (call : Call) → answer w call ≡ Answer.BeyondLimits → ⊥
   never call e =
-      never_beyond call w.block w.eras (given_to w call) (ap (λ (o : Outcome). o.answer) (sym (plain call)) ∙ e)
+      never_beyond call w.block w.eras (given_to w call) (ap (λ (o : Outcome Records). o.answer) (sym (plain call)) ∙ e)
 
   -- an own era is within its limit, whichever client is asked for
   own_within : (c : ℕ) → era w c ≤ era_limit

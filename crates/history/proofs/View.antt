@@ -9,17 +9,16 @@ use lib.Dec.{ltb}
 use lib.ListN.{length, get_or, set, length-set}
 use lib.Seq.{get_or-set_same, get_or-set_other}
 use borrow.Author.Tests.{ltb-true, lt-ltb, ne_eqb}
+use Rattle.std.specs.Prelude.{Option, Some, None}
 use Rattle.numbers.specs.Sizes.{clients, slots, cells}
-use Rattle.block.specs.declared.Cell.{Cell}
-use Rattle.block.specs.declared.Log.{Log}
-use Rattle.block.specs.declared.LogWord.{LogWord}
 use Rattle.block.specs.declared.Standing.{Standing}
-use Rattle.block.specs.declared.StandingWord.{StandingWord}
 use Rattle.block.specs.declared.store.Store.{Store}
 use Rattle.block.specs.Block.{empty, all_cells, header_at, cell_in, cell_index, cell_at, log_at, standing_at}
 use Rattle.block.specs.Matrix.{seen_era}
 use Rattle.block.specs.Store.{byte_of, cells_with, with_era, headers_after, cells_after, logs_after, standings_after, eras_after, block_after}
 use Rattle.calls.specs.declared.Records.{Records}
+use Rattle.block.specs.declared.Entry.{Entry}
+use Rattle.numbers.specs.declared.Slot.{Slot}
 use Rattle.calls.specs.Calls.{nothing}
 use Rattle.world.specs.World.{World, records_at}
 use Rattle.history.proofs.Updates.{by_test, by_equal, upd, upd_same, upd_other, upd_all}
@@ -92,12 +91,12 @@ put_set l a v d m =
     record { long = length-set l a v; here = get_or-set_same l a v d m; there = λ c o. get_or-set_other l a c v d o }
 
 -- the byte of a cell is read as the cell
-cell_byte : (held : Cell) → CellFits held → cell_in (byte_of held) ≡ held
-cell_byte Cell.Empty f = refl
-cell_byte (Cell.Holds s) f = rw (ne_eqb s.0 empty (λ e. omega arith))
+cell_byte : (held : Option Slot) → CellFits held → cell_in (byte_of held) ≡ held
+cell_byte None f = refl
+cell_byte (Some s) f = rw (ne_eqb s.0 empty (λ e. omega arith))
 
 -- cell k of client a written
-module _ (bytes : List ℕ) (long : length bytes ≡ all_cells) (a k : ℕ) (b : a < clients) (l : k < cells) (held : Cell)
+module _ (bytes : List ℕ) (long : length bytes ≡ all_cells) (a k : ℕ) (b : a < clients) (l : k < cells) (held : Option Slot)
     (fits : CellFits held) where
   -- the cell written is read
   cell_same : cell_at (cells_with bytes a k held) a k ≡ held
@@ -213,10 +212,7 @@ module _ {w : World} (sh : Shaped w) (ghosts : ℕ → Won) (a : ℕ) (b : a < c
         rows_long = λ i. refl;
         rows = unput;
         held = unput;
-        logs =
-            rw o
-            (put_read (λ (x : LogWord). x.log)
-            (put_set w.block.logs a (record { log = Log.Wrote e }) (record { log = Log.Nothing }) m));
+        logs = rw o (put_set w.block.logs a (Some e) None m);
         stand = unput;
       }
   reads (Store.Era i j e) o =
@@ -240,10 +236,7 @@ module _ {w : World} (sh : Shaped w) (ghosts : ℕ → Won) (a : ℕ) (b : a < c
         rows = unput;
         held = unput;
         logs = unput;
-        stand =
-            rw o
-            (put_read (λ (x : StandingWord). x.standing)
-            (put_set w.block.standings a (record { standing = s }) (record { standing = Standing.Absent }) m));
+        stand = rw o (put_set w.block.standings a s Standing.Absent m);
       }
 
   module _ (st : Store) (o : Ours a st) where

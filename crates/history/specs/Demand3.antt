@@ -1,11 +1,10 @@
 -- Demand 3, over every history of calls from a fresh block, clients and rescuers failing after any step. A reader of
 -- this file needs World.antt (what a history is) and Ledger.antt (the ledger, from the history alone). Its parts (a),
 -- (b) and (d) are said of any machine, all of it of the machine of the rules.
-use Rattle.std.specs.Prelude.{ℕ, ◌+◌, ◌<◌, ◌≤◌, true, false, cond, List, [], ◌∷◌, ◌≡◌}
+use Rattle.std.specs.Prelude.{ℕ, ◌+◌, ◌<◌, ◌≤◌, true, false, cond, List, [], ◌∷◌, ◌≡◌, None}
 use Rattle.numbers.specs.Sizes.{clients, slots, cells, era_limit, count_limit}
 use Rattle.numbers.specs.declared.answers.Answer.{Answer}
 use Rattle.header.specs.Header.{count_in}
-use Rattle.block.specs.declared.Cell.{Cell}
 use Rattle.block.specs.declared.Standing.{Standing}
 use Rattle.block.specs.Block.{header_at, cell_at, standing_at}
 use Rattle.block.specs.Matrix.{own_era}
@@ -31,7 +30,7 @@ NoLines c (l ∷ rest) = (l.client ≡ c → ⊥) × NoLines c rest
 
 -- every cell of client c is empty
 abbrev pub NoEntries : ℕ → World → Type 0
-NoEntries c w = (k : ℕ) → k < cells → cell_at w.block.cells c k ≡ Cell.Empty
+NoEntries c w = (k : ℕ) → k < cells → cell_at w.block.cells c k ≡ None
 
 -- D3 (a), (b) and (d) of a machine, for one history: w is the world and lines the ledger that it leads to
 pub record KeepsAt (m : Machine) (w : World) (lines : List Line) : Type 0 where

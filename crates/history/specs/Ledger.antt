@@ -2,12 +2,10 @@
 -- enters a line; the won release swap strikes it out. Beside it each line says whether its cell has been written and
 -- whether its release has been opened, as the calls of the history did. Nothing here reads a count or a cell. It is
 -- kept of any machine; of the machine of the rules it has the short names.
-use Rattle.std.specs.Prelude.{ℕ, ◌+◌, Bool, true, false, cond, ◌&&◌, List, [], ◌∷◌, map, eqb, ltb}
+use Rattle.std.specs.Prelude.{ℕ, ◌+◌, Bool, true, false, cond, ◌&&◌, List, [], ◌∷◌, map, eqb, ltb, Option, Some, None}
 use Rattle.numbers.specs.declared.answers.Answer.{Answer}
 use Rattle.block.specs.declared.Operation.{Operation}
 use Rattle.block.specs.Block.{header_at}
-use Rattle.stages.specs.declared.Kept.{Kept}
-use Rattle.stages.specs.declared.Open.{Open}
 use Rattle.stages.specs.declared.Stage.{Stage}
 use Rattle.stages.specs.Stages.{is_release, open_in, kept_in, place_of, idle}
 use Rattle.calls.specs.declared.Call.{Call}
@@ -55,19 +53,19 @@ unfoldable pub phased : Phase → ℕ → ℕ → List Line → List Line
 phased phase c k lines = map (in_phase phase c k) lines
 
 -- D3: a won lease or attach swap enters a line, a won release swap strikes it out
-abbrev pub won_by : ℕ → Open → List Line → List Line
-won_by c Open.Nothing lines = lines
-won_by c (Open.Doing op) lines = cond (is_release op.kind) (struck c op lines) (line_of c op ∷ lines)
+abbrev pub won_by : ℕ → Option Operation → List Line → List Line
+won_by c None lines = lines
+won_by c (Some op) lines = cond (is_release op.kind) (struck c op lines) (line_of c op ∷ lines)
 
 -- D3: the lines of a cell that is written
-abbrev pub written_by : ℕ → Open → List Line → List Line
-written_by c Open.Nothing lines = lines
-written_by c (Open.Doing op) lines = phased visible c op.cell lines
+abbrev pub written_by : ℕ → Option Operation → List Line → List Line
+written_by c None lines = lines
+written_by c (Some op) lines = phased visible c op.cell lines
 
 -- D3: the lines of a cell whose release a call opens: nothing was under way before it, and the release is after it
-abbrev pub opened_by : ℕ → Stage → Open → List Line → List Line
-opened_by c before Open.Nothing lines = lines
-opened_by c before (Open.Doing op) lines =
+abbrev pub opened_by : ℕ → Stage → Option Operation → List Line → List Line
+opened_by c before None lines = lines
+opened_by c before (Some op) lines =
     cond (is_release op.kind && idle before) (phased closing c op.cell lines) lines
 
 -- R3.4: whether a stage is the swap
@@ -83,10 +81,10 @@ abbrev pub past_swap : Stage → Bool
 past_swap stage = ltb 4 (place_of stage)
 
 -- R3.4: whether the swap of an open operation is won, by what `wins` says of its slot's header and the kept one
-abbrev pub wins_over : (ℕ → ℕ → Bool) → (ℕ → ℕ) → Open → Kept → Bool
-wins_over wins hdr Open.Nothing kept = false
-wins_over wins hdr (Open.Doing op) Kept.Nothing = false
-wins_over wins hdr (Open.Doing op) (Kept.Word h) = wins (hdr op.slot.0) h
+abbrev pub wins_over : (ℕ → ℕ → Bool) → (ℕ → ℕ) → Option Operation → Option ℕ → Bool
+wins_over wins hdr None kept = false
+wins_over wins hdr (Some op) None = false
+wins_over wins hdr (Some op) (Some h) = wins (hdr op.slot.0) h
 
 -- whether a stage performs a won swap
 abbrev pub wins_at : (ℕ → ℕ → Bool) → (ℕ → ℕ) → Stage → Bool
@@ -122,7 +120,7 @@ module _ (m : Machine) where
   -- D3: the ledger after a call
   unfoldable pub entered_by : World → Call → List Line → List Line
   entered_by w call lines =
-      opened_by call.client (given_to w call).client.stage (open_in (outcome_by m w call).records.client.stage)
+      opened_by call.client (given_to w call).client.stage (open_in (outcome_by m w call).next.client.stage)
       (by_stage m.wins (header_at w.block.headers) call.client (performed_by w call) lines)
 
   -- D3: the ledger after a list of calls

@@ -1,75 +1,59 @@
-// The player's way: the same calls on words that are lent, and their stores put in place. By value a call copies the
-// block and the matrix; measured, the player would fall behind the second program (docs/DECISIONS.md, 35). Each function
-// here has the contract of the one by value: `machine::plain_call`, `step_calls`, and the records' `step`.
+// A call of words that are lent: the eleven acts put together behind check 1. The doors of `machine`, which take the
+// block and the matrix by value, and the player, which keeps the words in place, both go through it.
 #![tactic(auto)]
 
-pub mod put;
-mod steps;
-
 ghost use Rattle.std.specs.Prelude.{◌≡◌};
+ghost use Rattle.block.specs.Lent.{lent};
 ghost use Rattle.calls.specs.Checks.{after_checks};
 ghost use Rattle.calls.specs.Calls.{asks, effect, plain_call};
-ghost use Rattle.in_place.specs.Lent.{lent};
 
 use block::matrix::{Row, own_era};
-use block::{LogWord, StandingWord, standing_at};
-use calls::{Act, Call, Outcome, Records, refused};
+use block::{Words, standing_at};
+use calls::{Act, Call, Caller, Records, unchanged};
 use lookup_call::look_up;
-use numbers::answers::Answer;
-use numbers::{CLIENTS, Client, ClientCheck};
+use numbers::Client;
 use opening_calls::{attach, lease, release};
+use stages::Outcome;
 use standing_calls::{fail, join, leave, rescuer_fails, take_over};
-use steps::{rescue_step, step};
+use step_calls::{rescue_step, step};
 
 // What is asked of a client that there is.
 #[tactic(auto, unfolding(calls::specs::Calls::asks, calls::specs::Calls::effect))]
 fn acted<'a>(
     me: Client,
     act: Act,
-    headers: &'a [u64],
-    cells: &'a [u8],
-    logs: [LogWord; CLIENTS],
-    standings: [StandingWord; CLIENTS],
+    words: Words<'a>,
     eras: &'a [Row],
     records: Records,
-) -> Outcome
+) -> Outcome<Records>
     ensures { result
-        ≡ after_checks (asks act me.0 (lent headers.now cells.now logs standings) eras.now records)
-        records
-        (effect act me.0 (lent headers.now cells.now logs standings) eras.now records) }
+        ≡ after_checks (asks act me.0 (lent words.entry) eras.now records) records
+        (effect act me.0 (lent words.entry) eras.now records) }
 {
-    let found = standing_at(standings, me);
+    let found = standing_at(words.standings, me);
+    let by = Caller { me, found, records };
     match act {
-        Act::Join => join(me, found, records),
-        Act::Leave => leave(me, found, cells, records),
-        Act::Lease(cell, slot) => lease(me, cell, slot, found, cells, own_era(eras, me), records),
-        Act::Attach(cell, slot) => attach(me, cell, slot, found, cells, own_era(eras, me), records),
-        Act::Release(cell) => release(me, cell, found, cells, records),
-        Act::Step => step(me, found, headers, eras, records),
-        Act::Fail => fail(me, found, records),
-        Act::TakeOver => take_over(me, found, records),
-        Act::RescueStep => rescue_step(me, found, headers, cells, logs, eras, records),
-        Act::RescuerFails => rescuer_fails(me, found, records),
-        Act::LookUp(cell) => look_up(me, cell, found, cells, records),
+        Act::Join => join(by),
+        Act::Leave => leave(by, words.cells),
+        Act::Lease(cell, slot) => lease(by, cell, slot, words.cells, own_era(eras, me)),
+        Act::Attach(cell, slot) => attach(by, cell, slot, words.cells, own_era(eras, me)),
+        Act::Release(cell) => release(by, cell, words.cells),
+        Act::Step => step(by, words.headers, eras),
+        Act::Fail => fail(by),
+        Act::TakeOver => take_over(by),
+        Act::RescueStep => rescue_step(by, words, eras),
+        Act::RescuerFails => rescuer_fails(by),
+        Act::LookUp(cell) => look_up(by, cell, words.cells),
     }
 }
 
 // A call of words that are known to be within their limits: check 1, and then what is asked of the client.
 #[tactic(auto, unfolding(calls::specs::Calls::plain_call))]
-pub fn call<'a>(
-    call: Call,
-    headers: &'a [u64],
-    cells: &'a [u8],
-    logs: [LogWord; CLIENTS],
-    standings: [StandingWord; CLIENTS],
-    eras: &'a [Row],
-    records: Records,
-) -> Outcome
-    ensures { result ≡ plain_call call (lent headers.now cells.now logs standings) eras.now records }
+pub fn call<'a>(call: Call, words: Words<'a>, eras: &'a [Row], records: Records) -> Outcome<Records>
+    ensures { result ≡ plain_call call (lent words.entry) eras.now records }
 {
-    let ClientCheck::Known(me) = Client::checked(call.client) else {
-        return refused(Answer::NoSuchClient, records);
-    };
-    let act = call.act;
-    acted(me, act, headers, cells, logs, standings, eras, records)
+    match Client::try_from(call.client) {
+        Ok(me) => acted(me, call.act, words, eras, records),
+        Err(answer) => unchanged(answer, records),
+    }
 }

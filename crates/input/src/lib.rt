@@ -10,6 +10,7 @@ use std::io::Read;
 
 // Fills the buffer from the input up to the input's end, and says how many bytes it took: the input's next ones, in
 // order, and fewer than there is room for only at its end. A read that fails ends it with the error.
+// A loop of its own: the library's `read_exact` does not say how many bytes there were before the end.
 pub fn read_full<R: Read>(input: &mut R, buf: &mut [u8]) -> io::Result<usize>
     ensures within { ReadsAtMost result buf.new }
     ensures bytes { IfOk result (λ n. Consumes (R.remaining input.old) (R.remaining input.new) (take n buf.new)) }

@@ -26,17 +26,10 @@ pub fn within(
 ) -> bool
     ensures { result ≡ within c block eras client rescuer }
 {
-    if !block_within(block) {
-        return false;
-    }
-    if !eras_within(eras) {
-        return false;
-    }
-    if !stage_within(client) {
-        return false;
-    }
-    let step = rescuer.step;
-    rescue_within(c, step)
+    block_within(block)
+        && eras_within(eras)
+        && stage_within(client)
+        && rescue_within(c, rescuer.step)
 }
 
 // Whether every header, cell and log of a block is.
@@ -44,12 +37,5 @@ pub fn within(
 fn block_within(block: Block) -> bool
     ensures { result ≡ block_within block }
 {
-    if !headers_within(&block.headers) {
-        return false;
-    }
-    if !cells_within(&block.cells) {
-        return false;
-    }
-    let logs = block.logs;
-    logs_within(logs)
+    headers_within(&block.headers) && cells_within(&block.cells) && logs_within(&block.logs)
 }

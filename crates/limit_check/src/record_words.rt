@@ -4,28 +4,23 @@ ghost use Rattle.stages.specs.Stages.{open_release, releases};
 ghost use Rattle.limits.specs.Limits.{open_within, kept_within, stage_within, rescue_within};
 
 use crate::block_words::{entry_within, header_within, operation_within};
+use block::Operation;
 use numbers::CLIENTS;
 use rescue::RescuerStep;
-use stages::{ClientRecord, Kept, Open, is_release};
+use stages::{ClientRecord, is_release};
 
 // Whether the operation that is under way is within the limits.
-fn open_within(doing: Open) -> bool
+fn open_within(doing: Option<Operation>) -> bool
     ensures { result ≡ open_within doing }
 {
-    match doing {
-        Open::Nothing => true,
-        Open::Doing(op) => operation_within(op),
-    }
+    doing.is_none_or(operation_within)
 }
 
 // Whether the header that is kept is within the limits.
-fn kept_within(kept: Kept) -> bool
+fn kept_within(kept: Option<u64>) -> bool
     ensures { result ≡ kept_within kept }
 {
-    match kept {
-        Kept::Nothing => true,
-        Kept::Word(word) => header_within(word),
-    }
+    kept.is_none_or(header_within)
 }
 
 // Whether a working record is within its limits.
@@ -33,35 +28,21 @@ fn kept_within(kept: Kept) -> bool
 pub(crate) fn stage_within(record: ClientRecord) -> bool
     ensures { result ≡ stage_within «record».stage }
 {
-    if open_within(record.open()) {
-        kept_within(record.kept())
-    } else {
-        false
-    }
+    open_within(record.open()) && kept_within(record.kept())
 }
 
 // Whether an operation that is open is a release.
-fn open_release(doing: Open) -> bool
+fn open_release(doing: Option<Operation>) -> bool
     ensures { result ≡ open_release doing }
 {
-    match doing {
-        Open::Nothing => false,
-        Open::Doing(op) => {
-            let kind = op.kind;
-            is_release(kind)
-        }
-    }
+    doing.is_some_and(|op| is_release(op.kind))
 }
 
 // Whether a rescuer's opened operation is a release, and within the limits.
 fn release_within(record: ClientRecord) -> bool
     ensures { result ≡ (releases «record».stage && stage_within «record».stage) }
 {
-    if open_release(record.open()) {
-        stage_within(record)
-    } else {
-        false
-    }
+    open_release(record.open()) && stage_within(record)
 }
 
 // Whether a step of the rescuer of client `c` is within its limits.
@@ -70,20 +51,11 @@ pub(crate) fn rescue_within(c: u64, step: RescuerStep) -> bool
     ensures { result ≡ rescue_within c step }
 {
     match step {
-        RescuerStep::ReadLog => true,
-        RescuerStep::Condition1(entry) => entry_within(entry),
+        RescuerStep::ReadLog | RescuerStep::Era | RescuerStep::Search => true,
+        RescuerStep::Condition1(entry) | RescuerStep::Cell(entry) => entry_within(entry),
         RescuerStep::Condition2(entry, j) => {
-            if !entry_within(entry) {
-                return false;
-            }
-            if CLIENTS <= j.0 as usize {
-                return false;
-            }
-            j.0 as u64 != c
+            entry_within(entry) && (j.0 as usize) < CLIENTS && j.0 as u64 != c
         }
-        RescuerStep::Cell(entry) => entry_within(entry),
-        RescuerStep::Era => true,
-        RescuerStep::Search => true,
         RescuerStep::Release(record) => release_within(record),
     }
 }

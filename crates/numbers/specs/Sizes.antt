@@ -1,9 +1,9 @@
 -- How many there are of each thing, and when a number names one (R1.1, R1.7).
-use Rattle.std.specs.Prelude.{ℕ, ◌+◌, ◌%◌, cond, ltb}
+use Rattle.std.specs.Prelude.{ℕ, ◌+◌, ◌%◌, cond, ltb, Option, Some, None, Result, Ok, Err}
 use Rattle.numbers.specs.declared.Era.{Era}
-use Rattle.numbers.specs.declared.ClientCheck.{ClientCheck}
-use Rattle.numbers.specs.declared.SlotCheck.{SlotCheck}
-use Rattle.numbers.specs.declared.CellCheck.{CellCheck}
+use Rattle.numbers.specs.declared.Client.{Client}
+use Rattle.numbers.specs.declared.Slot.{Slot}
+use Rattle.numbers.specs.declared.answers.Answer.{Answer}
 
 -- R1.1: eight clients, numbered from 0
 abbrev pub clients : ℕ
@@ -29,17 +29,21 @@ era_limit = 4294967216
 abbrev pub count_limit : ℕ
 count_limit = 128
 
--- R1.7, R2.14: the client that a number names
-abbrev pub checked_client : ℕ → ClientCheck
-checked_client n = cond (ltb n clients) (ClientCheck.Known (record { 0 = n })) ClientCheck.TooLarge
+-- R1.1: the number, where it is one of the first n
+abbrev pub below : ℕ → ℕ → Option ℕ
+below n number = cond (ltb number n) (Some number) None
 
--- R1.7, R2.14: the slot that a number names
-abbrev pub checked_slot : ℕ → SlotCheck
-checked_slot n = cond (ltb n slots) (SlotCheck.Known (record { 0 = n })) SlotCheck.TooLarge
+-- R1.7, R2.14: the client that a number names, else 1
+abbrev pub checked_client : ℕ → Result Client Answer
+checked_client n = cond (ltb n clients) (Ok (record { 0 = n })) (Err Answer.NoSuchClient)
 
--- R1.1, R2.14: the cell that a number names
-abbrev pub checked_cell : ℕ → CellCheck
-checked_cell n = cond (ltb n cells) (CellCheck.Known n) CellCheck.TooLarge
+-- R1.7, R2.14: the slot that a number names, else 3
+abbrev pub checked_slot : ℕ → Result Slot Answer
+checked_slot n = cond (ltb n slots) (Ok (record { 0 = n })) (Err Answer.NoSuchSlot)
+
+-- R1.1, R2.14: the cell that a number names, else 2
+abbrev pub checked_cell : ℕ → Result ℕ Answer
+checked_cell n = cond (ltb n cells) (Ok n) (Err Answer.NoSuchCell)
 
 -- R3.6, R4.5: one more, in an era's 32 bits
 abbrev pub raised : Era → Era

@@ -4,7 +4,7 @@ ghost use Rattle.numbers.specs.Answers.{number_of};
 
 use crate::Slot;
 
-#[derive(Clone, Copy)]
+#[derive(Clone, Copy, PartialEq, Eq)]
 pub enum Answer {
     Accepted,
     NoSuchClient,

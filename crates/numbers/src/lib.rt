@@ -5,8 +5,10 @@
 
 pub mod answers;
 
-ghost use Rattle.std.specs.Prelude.{◌≡◌};
-ghost use Rattle.numbers.specs.Sizes.{checked_client, checked_slot, checked_cell, raised};
+ghost use Rattle.std.specs.Prelude.{◌≡◌, ◌≤◌};
+ghost use Rattle.numbers.specs.Sizes.{below, checked_client, checked_slot, checked_cell, raised};
+
+use answers::Answer;
 
 // How many there are of each thing; each is numbered from 0.
 pub const CLIENTS: usize = 8;
@@ -16,81 +18,66 @@ pub const SLOTS: usize = 64;
 pub const CELLS: usize = 16;
 
 // No lease and no attach opens at this own era or above.
-pub const ERA_STOP: u32 = 4294967200;
+pub const ERA_STOP: Era = Era(4294967200);
 
 // No era of a history is above this, and no count above that.
-pub const ERA_LIMIT: u32 = 4294967216;
+pub const ERA_LIMIT: Era = Era(4294967216);
 
 pub const COUNT_LIMIT: u32 = 128;
 
 // A client's era, 32 bits.
-#[derive(Clone, Copy)]
+#[derive(Clone, Copy, PartialEq, Eq, PartialOrd, Ord)]
 pub struct Era(pub u32);
 
 // A client's number.
-#[derive(Clone, Copy)]
+#[derive(Clone, Copy, PartialEq, Eq)]
 pub struct Client(pub u8);
 
 // A slot's number.
-#[derive(Clone, Copy)]
+#[derive(Clone, Copy, PartialEq, Eq)]
 pub struct Slot(pub u8);
 
-// A number taken for a client's: one of the eight, or too large.
-#[derive(Clone, Copy)]
-pub enum ClientCheck {
-    Known(Client),
-    TooLarge,
-}
-
-// A number taken for a slot's: one of the sixty-four, or too large.
-#[derive(Clone, Copy)]
-pub enum SlotCheck {
-    Known(Slot),
-    TooLarge,
-}
-
-// A number taken for a cell's: one of the sixteen, or too large.
-#[derive(Clone, Copy)]
-pub enum CellCheck {
-    Known(u8),
-    TooLarge,
-}
-
-impl Client {
-    // The client that `number` names.
-    pub fn checked(number: u64) -> ClientCheck
-        ensures { result ≡ checked_client number }
-    {
-        if number < CLIENTS as u64 {
-            ClientCheck::Known(Client(number as u8))
-        } else {
-            ClientCheck::TooLarge
-        }
+// The number, where it is one of the first `N`.
+fn below<const N: usize>(number: u64) -> Option<u8>
+    requires { N ≤ 256 }
+    ensures { result ≡ below N number }
+{
+    if number < N as u64 {
+        Some(number as u8)
+    } else {
+        None
     }
 }
 
-impl Slot {
-    // The slot that `number` names.
-    pub fn checked(number: u64) -> SlotCheck
-        ensures { result ≡ checked_slot number }
-    {
-        if number < SLOTS as u64 {
-            SlotCheck::Known(Slot(number as u8))
-        } else {
-            SlotCheck::TooLarge
-        }
+// The client that a number names.
+impl TryFrom<u64> for Client {
+    type Error = Answer;
+
+    ghost try_from_gives = { λ number result. result ≡ checked_client number };
+
+    fn try_from(number: u64) -> Result<Client, Answer> {
+        below::<CLIENTS>(number)
+            .map(Client)
+            .ok_or(Answer::NoSuchClient)
+    }
+}
+
+// The slot that a number names.
+impl TryFrom<u64> for Slot {
+    type Error = Answer;
+
+    ghost try_from_gives = { λ number result. result ≡ checked_slot number };
+
+    fn try_from(number: u64) -> Result<Slot, Answer> {
+        below::<SLOTS>(number).map(Slot).ok_or(Answer::NoSuchSlot)
     }
 }
 
 // The cell that `number` names.
-pub fn checked_cell(number: u64) -> CellCheck
+pub fn checked_cell(number: u64) -> Result<u8, Answer>
     ensures { result ≡ checked_cell number }
 {
-    if number < CELLS as u64 {
-        CellCheck::Known(number as u8)
-    } else {
-        CellCheck::TooLarge
-    }
+    below::<CELLS>(number).ok_or(Answer::NoSuchCell)
 }
 
 impl Era {
@@ -98,6 +85,6 @@ impl Era {
     pub fn raise(self) -> Era
         ensures { result ≡ raised self }
     {
-        Era(((self.0 as u64 + 1) % 4294967296) as u32)
+        Era(self.0.wrapping_add(1))
     }
 }

@@ -1,121 +1,82 @@
-// The calls that open an operation, at its load: lease, attach, release. Each is a function of the words that it reads.
+// The calls that open an operation, at its load: lease, attach, release. Each is a function of the words that it reads;
+// its checks stand in the order of the rules' table, and the first that does not pass is the answer.
 #![tactic(auto)]
 
 ghost use Rattle.std.specs.Prelude.{◌≡◌};
-ghost use Rattle.calls.specs.Checks.{is_empty};
-ghost use Rattle.calls.specs.Calls.{opened, open_of, release_of};
+ghost use Rattle.calls.specs.Checks.{let_through};
+ghost use Rattle.calls.specs.Calls.{opened, asks_to_open, asks_to_release, release_opened, open_of, release_of};
 
 use block::store::Store;
-use block::{Cell, Kind, Operation, Standing, cell_at};
-use calls::{Outcome, Records, accepted, refused, stands};
+use block::{Kind, Operation, Standing, cell_at};
+use calls::{Caller, Records, accepted, check, settled};
 use numbers::answers::Answer;
-use numbers::{CellCheck, Client, ERA_STOP, Era, Slot, SlotCheck, checked_cell};
-use stages::{ClientRecord, Stage};
+use numbers::{ERA_STOP, Era, Slot, checked_cell};
+use stages::{ClientRecord, Outcome, Stage};
 
 // The record of an operation just opened, beside the rescuer's as it was.
-fn opened(kind: Kind, cell: u8, slot: Slot, records: Records) -> Outcome
+fn opened(kind: Kind, cell: u8, slot: Slot, records: Records) -> Outcome<Records>
     ensures { result ≡ opened kind cell slot records }
 {
-    let op = Operation { kind, cell, slot };
-    let client = ClientRecord {
-        stage: Stage::Load(op),
-    };
-    let rescuer = records.rescuer;
-    accepted(Records { client, rescuer }, Store::Nothing)
-}
-
-// Whether a cell is empty.
-fn is_empty(held: Cell) -> bool
-    ensures { result ≡ is_empty held }
-{
-    match held {
-        Cell::Empty => true,
-        Cell::Holds(_) => false,
-    }
+    let stage = Stage::Load(Operation { kind, cell, slot });
+    let client = ClientRecord { stage };
+    accepted(Records { client, ..records }, Store::Nothing)
 }
 
 // Lease and attach: of a slot, into an empty cell of a client whose own era is `own`.
 fn open(
     kind: Kind,
-    me: Client,
+    by: Caller,
     cell: u64,
     slot: u64,
-    found: Standing,
     cells: &[u8],
     own: Era,
-    records: Records,
-) -> Outcome
-    ensures { result ≡ open_of kind me.0 cell slot found cells.now own records }
+) -> Result<Outcome<Records>, Answer>
+    ensures { result
+        ≡ let_through (asks_to_open by.me.0 cell slot by.found cells.now own by.records)
+        (opened kind cell (record { 0 = slot }) by.records) }
 {
-    let CellCheck::Known(k) = checked_cell(cell) else {
-        return refused(Answer::NoSuchCell, records);
-    };
-    let SlotCheck::Known(s) = Slot::checked(slot) else {
-        return refused(Answer::NoSuchSlot, records);
-    };
-    if !stands(Standing::Running, found) {
-        return refused(Answer::WrongStanding, records);
-    }
-    let client = records.client;
-    if !client.is_idle() {
-        return refused(Answer::WrongMoment, records);
-    }
-    if !is_empty(cell_at(cells, me, k)) {
-        return refused(Answer::WrongCell, records);
-    }
-    if ERA_STOP <= own.0 {
-        return refused(Answer::AtEraStop, records);
-    }
-    opened(kind, k, s, records)
+    let k = checked_cell(cell)?;
+    let s = Slot::try_from(slot)?;
+    check(by.found == Standing::Running, Answer::WrongStanding)?;
+    check(by.records.client.is_idle(), Answer::WrongMoment)?;
+    check(cell_at(cells, by.me, k).is_none(), Answer::WrongCell)?;
+    check(own < ERA_STOP, Answer::AtEraStop)?;
+    Ok(opened(kind, k, s, by.records))
 }
 
 // 3 lease.
-pub fn lease(
-    me: Client,
-    cell: u64,
-    slot: u64,
-    found: Standing,
-    cells: &[u8],
-    own: Era,
-    records: Records,
-) -> Outcome
-    ensures { result ≡ open_of Kind.Lease me.0 cell slot found cells.now own records }
+#[tactic(auto, using(calls::proofs::LetThrough::opens))]
+pub fn lease(by: Caller, cell: u64, slot: u64, cells: &[u8], own: Era) -> Outcome<Records>
+    ensures { result ≡ open_of Kind.Lease by.me.0 cell slot by.found cells.now own by.records }
 {
-    open(Kind::Lease, me, cell, slot, found, cells, own, records)
+    settled(by.records, open(Kind::Lease, by, cell, slot, cells, own))
 }
 
 // 4 attach.
-pub fn attach(
-    me: Client,
-    cell: u64,
-    slot: u64,
-    found: Standing,
-    cells: &[u8],
-    own: Era,
-    records: Records,
-) -> Outcome
-    ensures { result ≡ open_of Kind.Attach me.0 cell slot found cells.now own records }
+#[tactic(auto, using(calls::proofs::LetThrough::opens))]
+pub fn attach(by: Caller, cell: u64, slot: u64, cells: &[u8], own: Era) -> Outcome<Records>
+    ensures { result ≡ open_of Kind.Attach by.me.0 cell slot by.found cells.now own by.records }
 {
-    open(Kind::Attach, me, cell, slot, found, cells, own, records)
+    settled(by.records, open(Kind::Attach, by, cell, slot, cells, own))
 }
 
-// 5 release: of the slot that the cell holds now.
-pub fn release(me: Client, cell: u64, found: Standing, cells: &[u8], records: Records) -> Outcome
-    ensures { result ≡ release_of me.0 cell found cells.now records }
+// Release: of the slot that the cell holds now.
+fn open_release(by: Caller, cell: u64, cells: &[u8]) -> Result<Outcome<Records>, Answer>
+    ensures { result
+        ≡ let_through (asks_to_release by.me.0 cell by.found cells.now by.records)
+        (release_opened by.me.0 cell cells.now by.records) }
 {
-    let CellCheck::Known(k) = checked_cell(cell) else {
-        return refused(Answer::NoSuchCell, records);
-    };
-    if !stands(Standing::Running, found) {
-        return refused(Answer::WrongStanding, records);
-    }
-    let client = records.client;
-    if !client.is_idle() {
-        return refused(Answer::WrongMoment, records);
-    }
-    let held = cell_at(cells, me, k);
-    let Cell::Holds(s) = held else {
-        return refused(Answer::WrongCell, records);
-    };
-    opened(Kind::Release, k, s, records)
+    let k = checked_cell(cell)?;
+    check(by.found == Standing::Running, Answer::WrongStanding)?;
+    check(by.records.client.is_idle(), Answer::WrongMoment)?;
+    let s = cell_at(cells, by.me, k).ok_or(Answer::WrongCell)?;
+    Ok(opened(Kind::Release, k, s, by.records))
+}
+
+// 5 release.
+#[tactic(auto, using(calls::proofs::LetThrough::settles))]
+pub fn release(by: Caller, cell: u64, cells: &[u8]) -> Outcome<Records>
+    ensures { result ≡ release_of by.me.0 cell by.found cells.now by.records }
+{
+    settled(by.records, open_release(by, cell, cells))
 }

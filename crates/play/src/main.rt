@@ -4,13 +4,11 @@
 // fails ends the program with its error.
 #![tactic(auto)]
 
-ghost use Rattle.std.specs.Prelude.{◌≡◌, length};
-
-use block::matrix::Row;
+use decode::RECORD;
 use input::read_full;
 use std::io;
 use text::LINE;
-use trace::{Played, RECORD, play_end, play_records};
+use trace::{Played, play_end, play_records};
 
 // How many records a turn plays, how many bytes they are, and the room for their lines.
 const TURN: usize = 4096;
@@ -18,20 +16,6 @@ const TURN: usize = 4096;
 const CHUNK: usize = RECORD * TURN;
 
 const ROOM: usize = LINE * TURN;
-
-// Room for a chunk of the input.
-fn chunk() -> [u8; CHUNK]
-    ensures { 16384 ≡ length result }
-{
-    [0; CHUNK]
-}
-
-// Room for the text of a turn.
-fn room() -> [u8; ROOM]
-    ensures { 172032 ≡ length result }
-{
-    [0; ROOM]
-}
 
 // Before the first record.
 fn first() -> Played {
@@ -44,13 +28,6 @@ fn first() -> Played {
     }
 }
 
-// Plays a chunk after what was played before it.
-fn turn<'a>(input: &'a [u8], out: &'a mut [u8], eras: &'a mut [Row], before: Played) -> Played {
-    let block = before.block;
-    let records = before.records;
-    play_records(input, out, before.place, block, eras, records)
-}
-
 // Writes the first `n` bytes of the output.
 fn write_first(rt: &impl Print, out: &[u8], n: usize) -> io::Result<()> {
     let end = n.min(out.len());
@@ -59,25 +36,30 @@ fn write_first(rt: &impl Print, out: &[u8], n: usize) -> io::Result<()> {
 
 // Writes the line of a cut record, where the last turn left bytes of its chunk, and the slots in use.
 fn finish(rt: &impl Print, input: &[u8], out: &mut [u8], last: Played) -> io::Result<()> {
-    let from = last.read;
-    if input.len() < from {
+    let Some(rest) = input.get(last.read..) else {
         return Ok(());
-    }
-    let block = last.block;
-    let headers = block.headers;
-    let end = play_end(&input[from..], last.place, &headers, &mut *out);
-    write_first(rt, &*out, end)
+    };
+    let end = play_end(rest, last.place, &last.block.headers, out);
+    write_first(rt, out, end)
 }
 
 fn main(rt: HostRuntime) -> io::Result<()> {
     let mut input = rt.stdin();
-    let mut buf = chunk();
-    let mut out = room();
+    let mut buf = [0; CHUNK];
+    let mut out = [0; ROOM];
     let mut eras = block::matrix::fresh_eras();
     let mut played = first();
+    // No `rt.forever()`: it would be a `Wait`.
     for _ in 0..u64::MAX {
         let n = read_full(&mut input, &mut buf)?;
-        played = turn(&buf[..n], &mut out, &mut eras, played);
+        played = play_records(
+            &buf[..n],
+            &mut out,
+            played.place,
+            played.block,
+            &mut eras,
+            played.records,
+        );
         write_first(&rt, &out, played.end)?;
         if n < CHUNK {
             return finish(&rt, &buf[..n], &mut out, played);

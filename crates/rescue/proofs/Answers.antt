@@ -2,14 +2,15 @@
 use Prim.Native.Nat.{ℕ}
 use mathlib.Core.Bool.{Bool, true, false}
 use mathlib.Core.Path.{◌≡◌, refl}
+use Rattle.std.specs.Prelude.{Option, Some, None}
 use Rattle.numbers.specs.declared.Client.{Client}
 use Rattle.numbers.specs.declared.answers.Answer.{Answer}
-use Rattle.block.specs.declared.Log.{Log}
 use Rattle.stages.specs.declared.Stage.{Stage}
 use Rattle.stages.specs.Stages.{idle, step_by}
 use Rattle.stages.proofs.Cases.{going_answers}
-use Rattle.rescue.specs.declared.search.Found.{Found}
 use Rattle.rescue.specs.declared.RescuerStep.{RescuerStep}
+use Rattle.block.specs.declared.Entry.{Entry}
+use Rattle.numbers.specs.declared.Slot.{Slot}
 use Rattle.rescue.specs.Rescue.{read_log, first_condition, second_condition, write_cell, raise_era, searched, as_rescue, rescue_by}
 
 module _ (P : Answer → Type 0) (zero : P Answer.Accepted) (lost : P Answer.SwapLost) (hundred : P Answer.Finished)
@@ -26,18 +27,18 @@ module _ (P : Answer → Type 0) (zero : P Answer.Accepted) (lost : P Answer.Swa
       by_idle false e = rw e (going_answers P c hdr row zero lost stage e)
 
   -- the log that is read
-  read_answers : (log : Log) → P (read_log log).answer
-  read_answers Log.Nothing = zero
-  read_answers (Log.Wrote e) = zero
+  read_answers : (log : Option Entry) → P (read_log log).answer
+  read_answers None = zero
+  read_answers (Some e) = zero
 
   -- the search
-  search_answers : (found : Found) → P (searched c found).answer
-  search_answers Found.Nothing = hundred
-  search_answers (Found.At k s) = zero
+  search_answers : (found : Option (ℕ × Slot)) → P (searched c found).answer
+  search_answers None = hundred
+  search_answers (Some (k, s)) = zero
 
   -- every rescue step
   pub rescue_answers :
-      (col : ℕ → ℕ) (log : Log) (found : Found) (step : RescuerStep) → P (rescue_by c hdr row col log found step).answer
+      (col : ℕ → ℕ) (log : Option Entry) (found : Option (ℕ × Slot)) (step : RescuerStep) → P (rescue_by c hdr row col log found step).answer
   unfolding first_condition second_condition write_cell raise_era
   rescue_answers col log found RescuerStep.ReadLog = read_answers log
   rescue_answers col log found (RescuerStep.Condition1 e) = zero

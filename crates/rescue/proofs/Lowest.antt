@@ -4,15 +4,14 @@ use Prim.Native.Nat.{ℕ, suc, ◌+◌, ◌-◌, ◌≤◌, ◌<◌}
 use mathlib.Core.List.{List}
 use mathlib.Core.Path.{◌≡◌, ap, ◌∙◌}
 use native.Mathlib.Omega.{arith}
+use Rattle.std.specs.Prelude.{Option, Some, None}
 use Rattle.numbers.specs.Sizes.{cells}
 use Rattle.numbers.specs.declared.Slot.{Slot}
-use Rattle.block.specs.declared.Cell.{Cell}
 use Rattle.block.specs.Block.{cell_at}
-use Rattle.rescue.specs.declared.search.Found.{Found}
 use Rattle.rescue.specs.Search.{found_at, lowest_from}
 
 -- what the search finds from cell k on
-abbrev pub from : List ℕ → ℕ → ℕ → Found
+abbrev pub from : List ℕ → ℕ → ℕ → Option (ℕ × Slot)
 from bytes c k = lowest_from bytes c (cells - k) k
 
 module _ (bytes : List ℕ) (c k : ℕ) where
@@ -23,13 +22,13 @@ module _ (bytes : List ℕ) (c k : ℕ) where
       let left : cells - k ≡ suc (cells - (k + 1)) = omega arith in
       ap (λ (n : ℕ). lowest_from bytes c n k) left
 
-  pub passes : k < cells → cell_at bytes c k ≡ Cell.Empty → from bytes c k ≡ from bytes c (k + 1)
-  passes h e = looks h ∙ ap (λ (held : Cell). found_at k held (from bytes c (k + 1))) e
+  pub passes : k < cells → cell_at bytes c k ≡ None → from bytes c k ≡ from bytes c (k + 1)
+  passes h e = looks h ∙ ap (λ (held : Option Slot). found_at k held (from bytes c (k + 1))) e
 
-  pub finds : (s : Slot) → k < cells → cell_at bytes c k ≡ Cell.Holds s → from bytes c k ≡ Found.At k s
-  finds s h e = looks h ∙ ap (λ (held : Cell). found_at k held (from bytes c (k + 1))) e
+  pub finds : (s : Slot) → k < cells → cell_at bytes c k ≡ Some s → from bytes c k ≡ Some (k, s)
+  finds s h e = looks h ∙ ap (λ (held : Option Slot). found_at k held (from bytes c (k + 1))) e
 
-  pub ends : cells ≤ k → from bytes c k ≡ Found.Nothing
+  pub ends : cells ≤ k → from bytes c k ≡ None
   unfolding lowest_from
   ends h =
       let none : cells - k ≡ 0 = omega arith in

@@ -3,51 +3,46 @@
 ghost use Rattle.std.specs.Prelude.{◌≡◌, ◌<◌};
 ghost use Rattle.rescue.specs.Rescue.{swap_stands, first_condition, second_condition, from_row, onward};
 
-use crate::{Rescued, RescuerStep, went};
+use crate::{RescuerRecord, RescuerStep, went};
 use block::Entry;
 use block::store::Store;
 use header::unpack;
 use numbers::answers::Answer;
 use numbers::{CLIENTS, Client, Era};
+use stages::Outcome;
 
 // Whether a header is the client's own swap at its own era.
 fn swap_stands(c: Client, own: Era, header: u64) -> bool
     ensures { result ≡ swap_stands c own header }
 {
     let fields = unpack(header);
-    if fields.client.0 == c.0 {
-        fields.era.0 == own.0
-    } else {
-        false
-    }
+    fields.client == c && fields.era == own
 }
 
 // 2. Condition 1: the logged slot's header is the client's own, at its own era.
 #[tactic(auto, unfolding(crate::specs::Rescue::first_condition))]
-pub fn first(c: Client, entry: Entry, own: Era, header: u64) -> Rescued
+pub fn first(c: Client, entry: Entry, own: Era, header: u64) -> Outcome<RescuerRecord>
     ensures { result ≡ first_condition c entry own header }
 {
-    if swap_stands(c, own, header) {
-        went(Answer::Accepted, RescuerStep::Cell(entry), Store::Nothing)
+    let step = if swap_stands(c, own, header) {
+        RescuerStep::Cell(entry)
     } else {
-        went(Answer::Accepted, onward(c, entry, 0), Store::Nothing)
-    }
+        onward(c, entry, 0)
+    };
+    went(Answer::Accepted, step, Store::Nothing)
 }
 
 // 3. Condition 2, at client `j`: its row has seen the client's own era.
 #[tactic(auto, unfolding(crate::specs::Rescue::second_condition))]
-pub fn second(c: Client, entry: Entry, j: Client, own: Era, seen: Era) -> Rescued
+pub fn second(c: Client, entry: Entry, j: Client, own: Era, seen: Era) -> Outcome<RescuerRecord>
     ensures { result ≡ second_condition c entry j own seen }
 {
-    if own.0 <= seen.0 {
-        went(Answer::Accepted, RescuerStep::Cell(entry), Store::Nothing)
+    let step = if own <= seen {
+        RescuerStep::Cell(entry)
     } else {
-        went(
-            Answer::Accepted,
-            onward(c, entry, j.0 as u32 + 1),
-            Store::Nothing,
-        )
-    }
+        onward(c, entry, j.0 as u32 + 1)
+    };
+    went(Answer::Accepted, step, Store::Nothing)
 }
 
 // Condition 2 at client `j` or later; the client itself is passed over.

@@ -1,18 +1,16 @@
 -- What a situation is (part 6 of the rules): calls with the numbers of their answers, and what the shared words are in
 -- between and at the end; and the test that it comes about.
-use Rattle.std.specs.Prelude.{ℕ, ◌-◌, Bool, true, false, ◌&&◌, List, [], ◌∷◌, ◌++◌, map, eqb, replicate}
+use Rattle.std.specs.Prelude.{ℕ, ◌-◌, Bool, true, false, ◌&&◌, List, [], ◌∷◌, ◌++◌, map, eqb, replicate, Option, Some, None}
 use Rattle.numbers.specs.Answers.{number_of}
 use Rattle.header.specs.Header.{packed, count_in}
 use Rattle.block.specs.declared.Kind.{Kind}
-use Rattle.block.specs.declared.Log.{Log}
-use Rattle.block.specs.declared.LogWord.{LogWord}
 use Rattle.block.specs.declared.Standing.{Standing}
-use Rattle.block.specs.declared.StandingWord.{StandingWord}
 use Rattle.block.specs.declared.store.Store.{Store}
 use Rattle.block.specs.Block.{header_at, cell_at, standing_at}
 use Rattle.block.specs.Matrix.{seen_era, own_era}
 use Rattle.block.specs.Store.{byte_of}
 use Rattle.calls.specs.declared.Call.{Call}
+use Rattle.block.specs.declared.Entry.{Entry}
 use Rattle.calls.specs.Named.{lease, attach, release, step, take_over, rescue_step}
 use Rattle.calls.specs.Checks.{standing_code, same_standing, is_empty}
 use Rattle.world.specs.World.{World, fresh, outcome, answer, after, run}
@@ -68,15 +66,15 @@ kind_code Kind.Attach = 1
 kind_code Kind.Release = 2
 
 -- R1.2: the words of a log, ahead of those that follow
-abbrev pub log_words : Log → List ℕ → List ℕ
-log_words Log.Nothing rest = 0 ∷ rest
-log_words (Log.Wrote e) rest =
+abbrev pub log_words : Option Entry → List ℕ → List ℕ
+log_words None rest = 0 ∷ rest
+log_words (Some e) rest =
     1 ∷ kind_code e.operation.kind ∷ e.era.0 ∷ e.operation.cell ∷ e.operation.slot.0 ∷ e.count ∷ rest
 
 -- R1.2: the words of all logs
-abbrev pub all_log_words : List LogWord → List ℕ
+abbrev pub all_log_words : List (Option Entry) → List ℕ
 all_log_words [] = []
-all_log_words (w ∷ rest) = log_words w.log (all_log_words rest)
+all_log_words (w ∷ rest) = log_words w (all_log_words rest)
 
 -- R1.3: the entries of the matrix, row by row
 abbrev pub all_entries : List (List ℕ) → List ℕ
@@ -89,7 +87,7 @@ shared_words w =
     w.block.headers
     ++ (w.block.cells
     ++ (all_entries w.eras
-    ++ (map (λ (s : StandingWord). standing_code s.standing) w.block.standings ++ all_log_words w.block.logs)))
+    ++ (map standing_code w.block.standings ++ all_log_words w.block.logs)))
 
 -- whether a store writes slot s into cell k of client c
 abbrev pub writes_cell : Store → ℕ → ℕ → ℕ → Bool

@@ -4,7 +4,7 @@
 use Rattle.std.specs.Prelude.{ℕ, true, List, [], ◌∷◌, ◌++◌, ◌≡◌}
 use Rattle.block.specs.declared.Standing.{Standing}
 use Rattle.block.specs.Store.{with_era}
-use Rattle.limits.specs.Every.{every}
+use Rattle.std.specs.List.{list_all}
 use Rattle.calls.specs.Named.{join, leave, lease, attach, release, step, fail, take_over, rescue_step, rescuer_fails, look_up}
 use Rattle.world.specs.World.{World, fresh}
 use Rattle.situations.specs.Situation.{Item, Situation, file, end_of, holds, found, answered, accepted, steps, six_steps, whole_lease, whole_attach, whole_release, rescue_steps, last_rescue_steps, rescue}
@@ -288,4 +288,4 @@ situations =
 
 -- R6, R8.3: every situation of the table comes about
 abbrev pub AllHold : Type 0
-AllHold = every holds situations ≡ true
+AllHold = list_all holds situations ≡ true

@@ -6,34 +6,33 @@ use mathlib.Core.Logic.{◌⊎◌, inl, inr}
 use mathlib.Core.Path.{◌≡◌, refl, sym}
 use native.Mathlib.Omega.{arith}
 use borrow.Author.Tests.{eqb-true}
+use Rattle.std.specs.Prelude.{Some, None, Result, Err}
 use Rattle.numbers.specs.declared.answers.Answer.{Answer}
 use Rattle.header.specs.Header.{count_in, is_free}
-use Rattle.block.specs.declared.Cell.{Cell}
 use Rattle.block.specs.declared.Kind.{Kind}
 use Rattle.block.specs.declared.Operation.{Operation}
-use Rattle.stages.specs.declared.perform.Asked.{Asked}
-use Rattle.stages.specs.Stages.{asked_by, count_after, is_release, written}
+use Rattle.stages.specs.Stages.{asks_nothing, asked_by, count_after, is_release, written}
 
 -- a load that asks nothing more refuses nothing
-nothing_refused : (answer : Answer) → Asked.Nothing ≡ Asked.Refuses answer → ⊥
+nothing_refused : (answer : Answer) → asks_nothing ≡ Err answer → ⊥
 nothing_refused answer e = let z : ◌≡◌ {A = ℕ} 0 1 = cc in omega arith
 
 -- equal refusals have equal answers
-same_refusal : (a b : Answer) → Asked.Refuses a ≡ Asked.Refuses b → a ≡ b
+same_refusal : (a b : Answer) → ◌≡◌ {A = Result (Unit {0}) Answer} (Err a) (Err b) → a ≡ b
 same_refusal a b e = cc
 
 -- an operation that is no release and was not refused raises the count by one
 pub count_entered :
     (kind : Kind) (h : ℕ) →
     is_release kind ≡ false →
-    asked_by kind h ≡ Asked.Nothing →
+    asked_by kind h ≡ asks_nothing →
     count_after kind (count_in h) ≡ count_in h + 1
 count_entered Kind.Lease h r a = by_free (is_free h) refl a
   where
     by_free :
         (free : Bool) →
         is_free h ≡ free →
-        cond free Asked.Nothing (Asked.Refuses Answer.SlotHeld) ≡ Asked.Nothing →
+        cond free asks_nothing (Err Answer.SlotHeld) ≡ asks_nothing →
         1 ≡ count_in h + 1
     by_free true e q = let z : count_in h ≡ 0 = eqb-true _ _ e in omega arith
     by_free false e q = absurd (nothing_refused Answer.SlotHeld (sym q))
@@ -49,13 +48,13 @@ count_struck Kind.Release n r = refl
 -- a load is refused with 7 or 8, and never for a release
 pub asked_refuses :
     (kind : Kind) (h : ℕ) (answer : Answer) →
-    asked_by kind h ≡ Asked.Refuses answer →
+    asked_by kind h ≡ Err answer →
     (is_release kind ≡ false) × ((answer ≡ Answer.SlotHeld) ⊎ (answer ≡ Answer.SlotFree))
 asked_refuses Kind.Lease h answer e = (refl, inl (by_free (is_free h) e))
   where
     by_free :
         (free : Bool) →
-        cond free Asked.Nothing (Asked.Refuses Answer.SlotHeld) ≡ Asked.Refuses answer →
+        cond free asks_nothing (Err Answer.SlotHeld) ≡ Err answer →
         answer ≡ Answer.SlotHeld
     by_free true q = absurd (nothing_refused answer q)
     by_free false q = sym (same_refusal Answer.SlotHeld answer q)
@@ -63,18 +62,18 @@ asked_refuses Kind.Attach h answer e = (refl, inr (by_free (is_free h) e))
   where
     by_free :
         (free : Bool) →
-        cond free (Asked.Refuses Answer.SlotFree) Asked.Nothing ≡ Asked.Refuses answer →
+        cond free (Err Answer.SlotFree) asks_nothing ≡ Err answer →
         answer ≡ Answer.SlotFree
     by_free true q = sym (same_refusal Answer.SlotFree answer q)
     by_free false q = absurd (nothing_refused answer q)
 asked_refuses Kind.Release h answer e = absurd (nothing_refused answer e)
 
 -- a release empties its cell
-pub written_release : (op : Operation) → is_release op.kind ≡ true → written op ≡ Cell.Empty
+pub written_release : (op : Operation) → is_release op.kind ≡ true → written op ≡ None
 unfolding written
 written_release op e = rw e
 
 -- every other operation writes its slot
-pub written_entry : (op : Operation) → is_release op.kind ≡ false → written op ≡ Cell.Holds op.slot
+pub written_entry : (op : Operation) → is_release op.kind ≡ false → written op ≡ Some op.slot
 unfolding written
 written_entry op e = rw e

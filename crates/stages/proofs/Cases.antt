@@ -3,15 +3,16 @@ use Prim.Native.Nat.{ℕ}
 use mathlib.Core.Bool.{Bool, true, false, false≢true}
 use mathlib.Core.Logic.{⊎_elim}
 use mathlib.Core.Path.{◌≡◌, refl, sym, subst}
+use Rattle.std.specs.Prelude.{Result, Ok, Err}
 use Rattle.numbers.specs.declared.Client.{Client}
 use Rattle.numbers.specs.declared.answers.Answer.{Answer}
 use Rattle.header.specs.Header.{client_in}
 use Rattle.block.specs.declared.Operation.{Operation}
 use Rattle.stages.specs.declared.Stage.{Stage}
-use Rattle.stages.specs.declared.Stepped.{Stepped}
-use Rattle.stages.specs.declared.perform.Asked.{Asked}
+use Rattle.stages.specs.declared.Outcome.{Outcome}
+use Rattle.stages.specs.declared.ClientRecord.{ClientRecord}
 use Rattle.stages.proofs.ByKind.{asked_refuses}
-use Rattle.stages.specs.Stages.{kept, closed, asked, loaded, load_stage, note_stage, log_stage, won, swap_won, swap_lost, swap_by, swap_stage, cell_stage, era_stage, step_by, idle}
+use Rattle.stages.specs.Stages.{asks_nothing, kept, closed, asked, loaded, load_stage, note_stage, log_stage, won, swap_won, swap_lost, swap_by, swap_stage, cell_stage, era_stage, step_by, idle}
 
 -- a stage with nothing under way is none
 pub stage_idle : (stage : Stage) → idle stage ≡ true → stage ≡ Stage.Idle
@@ -24,15 +25,15 @@ stage_idle (Stage.Cell op h) e = absurd (false≢true e)
 stage_idle (Stage.Era op h) e = absurd (false≢true e)
 
 -- what holds of a step in each of its cases holds of every step
-module _ (P : Stage → Stepped → Type 0) (me : Client) (hdr row : ℕ → ℕ)
+module _ (P : Stage → Outcome ClientRecord → Type 0) (me : Client) (hdr row : ℕ → ℕ)
     (nothing : P Stage.Idle (closed Answer.WrongMoment))
     (load_kept :
     (op : Operation) →
-    asked op (hdr op.slot.0) ≡ Asked.Nothing →
+    asked op (hdr op.slot.0) ≡ asks_nothing →
     P (Stage.Load op) (kept op (hdr op.slot.0)))
     (load_refused :
     (op : Operation) (answer : Answer) →
-    asked op (hdr op.slot.0) ≡ Asked.Refuses answer →
+    asked op (hdr op.slot.0) ≡ Err answer →
     P (Stage.Load op) (closed answer))
     (note : (op : Operation) (h : ℕ) → P (Stage.Note op h) (note_stage me op h (record { 0 = row (client_in h) })))
     (log : (op : Operation) (h : ℕ) → P (Stage.Log op h) (log_stage me op h (record { 0 = row me.0 })))
@@ -45,11 +46,11 @@ module _ (P : Stage → Stepped → Type 0) (me : Client) (hdr row : ℕ → ℕ
     (era : (op : Operation) (h : ℕ) → P (Stage.Era op h) (era_stage me (record { 0 = row me.0 }))) where
   -- a load, by what it asks
   load_cases :
-      (op : Operation) (a : Asked) →
+      (op : Operation) (a : Result (Unit {0}) Answer) →
       asked op (hdr op.slot.0) ≡ a →
       P (Stage.Load op) (loaded op (hdr op.slot.0) a)
-  load_cases op Asked.Nothing e = load_kept op e
-  load_cases op (Asked.Refuses answer) e = load_refused op answer e
+  load_cases op (Ok u) e = load_kept op e
+  load_cases op (Err answer) e = load_refused op answer e
 
   -- a swap, by whether it is won
   swap_cases :

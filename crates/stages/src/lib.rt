@@ -8,15 +8,15 @@ pub mod perform;
 ghost use Rattle.std.specs.Prelude.{◌≡◌};
 ghost use Rattle.stages.specs.Stages.{step_of, is_release, written, open_in, kept_in, is_idle};
 
-use block::matrix::{Matrix, own_era, seen_era};
+use block::matrix::{Matrix, Row, own_era, seen_era};
 use block::store::Store;
-use block::{Block, Cell, Kind, Operation, header_at};
+use block::{Block, Kind, Operation, header_at};
 use header::unpack;
-use numbers::Client;
 use numbers::answers::Answer;
+use numbers::{Client, Slot};
 
 // The stage that an operation has reached, with the operation and, past the load, the header that it keeps.
-#[derive(Clone, Copy)]
+#[derive(Clone, Copy, PartialEq, Eq)]
 pub enum Stage {
     Idle,
     Load(Operation),
@@ -28,97 +28,82 @@ pub enum Stage {
 }
 
 // What a client keeps to itself between two steps.
-#[derive(Clone, Copy)]
+#[derive(Clone, Copy, PartialEq, Eq)]
 pub struct ClientRecord {
     pub stage: Stage,
 }
 
-// The operation that is under way.
-#[derive(Clone, Copy)]
-pub enum Open {
-    Nothing,
-    Doing(Operation),
-}
-
-// The header that is kept.
-#[derive(Clone, Copy)]
-pub enum Kept {
-    Nothing,
-    Word(u64),
-}
-
-// What one step answers, the record it hands back and the one word that it writes.
-#[derive(Clone, Copy)]
-pub struct Stepped {
+// What a step or a call answers, the record that it hands back and the one word that it writes.
+#[derive(Clone, Copy, PartialEq, Eq)]
+pub struct Outcome<R> {
     pub answer: Answer,
-    pub next: ClientRecord,
+    pub next: R,
     pub store: Store,
 }
 
 impl ClientRecord {
     // One step of client `me`, given the block and beside it the matrix. With nothing under way it is refused.
-    #[tactic(auto, unfolding(crate::specs::Stages::step_of))]
-    pub fn step(self, me: Client, block: Block, eras: Matrix) -> Stepped
+    pub fn step(self, me: Client, block: Block, eras: Matrix) -> Outcome<ClientRecord>
         ensures { result ≡ step_of me block.headers eras self.stage }
     {
-        let stage = self.stage;
-        match stage {
+        self.step_lent(me, &block.headers, &eras)
+    }
+
+    // The same step of words that are lent.
+    #[tactic(auto, unfolding(crate::specs::Stages::step_of))]
+    pub fn step_lent<'a>(
+        self,
+        me: Client,
+        headers: &'a [u64],
+        eras: &'a [Row],
+    ) -> Outcome<ClientRecord>
+        ensures { result ≡ step_of me headers.now eras.now self.stage }
+    {
+        match self.stage {
             Stage::Idle => perform::nothing_under_way(),
-            Stage::Load(op) => {
-                let slot = op.slot;
-                perform::load(op, header_at(&block.headers, slot))
-            }
+            Stage::Load(op) => perform::load(op, header_at(headers, op.slot)),
             Stage::Note(op, kept) => {
-                let client = unpack(kept).client;
-                perform::note(me, op, kept, seen_era(&eras, me, client))
+                perform::note(me, op, kept, seen_era(eras, me, unpack(kept).client))
             }
-            Stage::Log(op, kept) => perform::log_entry(me, op, kept, own_era(&eras, me)),
-            Stage::Swap(op, kept) => {
-                let slot = op.slot;
-                perform::swap(
-                    me,
-                    op,
-                    kept,
-                    own_era(&eras, me),
-                    header_at(&block.headers, slot),
-                )
-            }
+            Stage::Log(op, kept) => perform::log_entry(me, op, kept, own_era(eras, me)),
+            Stage::Swap(op, kept) => perform::swap(
+                me,
+                op,
+                kept,
+                own_era(eras, me),
+                header_at(headers, op.slot),
+            ),
             Stage::Cell(op, kept) => perform::write_cell(me, op, kept),
-            Stage::Era(_, _) => perform::raise_era(me, own_era(&eras, me)),
+            Stage::Era(_, _) => perform::raise_era(me, own_era(eras, me)),
         }
     }
-}
 
-impl ClientRecord {
     // The operation that is under way.
-    pub fn open(self) -> Open
+    pub fn open(self) -> Option<Operation>
         ensures { result ≡ open_in self.stage }
     {
-        let stage = self.stage;
-        match stage {
-            Stage::Idle => Open::Nothing,
-            Stage::Load(op) => Open::Doing(op),
-            Stage::Note(op, _) => Open::Doing(op),
-            Stage::Log(op, _) => Open::Doing(op),
-            Stage::Swap(op, _) => Open::Doing(op),
-            Stage::Cell(op, _) => Open::Doing(op),
-            Stage::Era(op, _) => Open::Doing(op),
+        match self.stage {
+            Stage::Idle => None,
+            Stage::Load(op)
+            | Stage::Note(op, _)
+            | Stage::Log(op, _)
+            | Stage::Swap(op, _)
+            | Stage::Cell(op, _)
+            | Stage::Era(op, _) => Some(op),
         }
     }
 
     // The header that is kept.
-    pub fn kept(self) -> Kept
+    pub fn kept(self) -> Option<u64>
         ensures { result ≡ kept_in self.stage }
     {
-        let stage = self.stage;
-        match stage {
-            Stage::Idle => Kept::Nothing,
-            Stage::Load(_) => Kept::Nothing,
-            Stage::Note(_, word) => Kept::Word(word),
-            Stage::Log(_, word) => Kept::Word(word),
-            Stage::Swap(_, word) => Kept::Word(word),
-            Stage::Cell(_, word) => Kept::Word(word),
-            Stage::Era(_, word) => Kept::Word(word),
+        match self.stage {
+            Stage::Idle | Stage::Load(_) => None,
+            Stage::Note(_, word)
+            | Stage::Log(_, word)
+            | Stage::Swap(_, word)
+            | Stage::Cell(_, word)
+            | Stage::Era(_, word) => Some(word),
         }
     }
 
@@ -126,11 +111,7 @@ impl ClientRecord {
     pub fn is_idle(self) -> bool
         ensures { result ≡ is_idle self }
     {
-        let open = self.open();
-        match open {
-            Open::Nothing => true,
-            Open::Doing(_) => false,
-        }
+        self.open().is_none()
     }
 }
 
@@ -138,23 +119,16 @@ impl ClientRecord {
 pub fn is_release(kind: Kind) -> bool
     ensures { result ≡ is_release kind }
 {
-    match kind {
-        Kind::Lease => false,
-        Kind::Attach => false,
-        Kind::Release => true,
-    }
+    matches!(kind, Kind::Release)
 }
 
 // What the cell stage of `op` writes: the slot, or nothing for a release.
 #[tactic(auto, unfolding(crate::specs::Stages::written))]
-pub fn written(op: Operation) -> Cell
+pub fn written(op: Operation) -> Option<Slot>
     ensures { result ≡ written op }
 {
-    let kind = op.kind;
-    let slot = op.slot;
-    if is_release(kind) {
-        Cell::Empty
-    } else {
-        Cell::Holds(slot)
+    match op.kind {
+        Kind::Release => None,
+        Kind::Lease | Kind::Attach => Some(op.slot),
     }
 }

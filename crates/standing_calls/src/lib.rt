@@ -3,77 +3,70 @@
 #![tactic(auto)]
 
 ghost use Rattle.std.specs.Prelude.{◌≡◌};
-ghost use Rattle.calls.specs.Checks.{found_nothing};
-ghost use Rattle.calls.specs.Calls.{stand_of, leave_of};
+ghost use Rattle.calls.specs.Checks.{let_through};
+ghost use Rattle.calls.specs.Calls.{asks_to_leave, leaves, stand_of, leave_of};
 
 use block::Standing;
 use block::store::Store;
-use calls::{Outcome, Records, accepted, nothing, refused, stands};
-use numbers::Client;
+use calls::{Caller, Records, accepted, check, nothing, settled, unchanged};
 use numbers::answers::Answer;
-use rescue::search::{Found, lowest_full};
+use rescue::search::lowest_full;
+use stages::Outcome;
 
 // A client found with the standing `from` gets the standing `to`; what was under way is forgotten.
-fn stand_as(me: Client, found: Standing, from: Standing, to: Standing, records: Records) -> Outcome
-    ensures { result ≡ stand_of me.0 found from to records }
+fn stand_as(by: Caller, from: Standing, to: Standing) -> Outcome<Records>
+    ensures { result ≡ stand_of by.me.0 by.found from to by.records }
 {
-    if !stands(from, found) {
-        return refused(Answer::WrongStanding, records);
+    if by.found == from {
+        accepted(nothing(), Store::Standing(by.me, to))
+    } else {
+        unchanged(Answer::WrongStanding, by.records)
     }
-    accepted(nothing(), Store::Standing(me, to))
 }
 
 // 1 join: an absent client is running.
-pub fn join(me: Client, found: Standing, records: Records) -> Outcome
-    ensures { result ≡ stand_of me.0 found Standing.Absent Standing.Running records }
+pub fn join(by: Caller) -> Outcome<Records>
+    ensures { result ≡ stand_of by.me.0 by.found Standing.Absent Standing.Running by.records }
 {
-    stand_as(me, found, Standing::Absent, Standing::Running, records)
+    stand_as(by, Standing::Absent, Standing::Running)
 }
 
 // 7 fail: a running client has failed; its private words are lost.
-pub fn fail(me: Client, found: Standing, records: Records) -> Outcome
-    ensures { result ≡ stand_of me.0 found Standing.Running Standing.Failed records }
+pub fn fail(by: Caller) -> Outcome<Records>
+    ensures { result ≡ stand_of by.me.0 by.found Standing.Running Standing.Failed by.records }
 {
-    stand_as(me, found, Standing::Running, Standing::Failed, records)
+    stand_as(by, Standing::Running, Standing::Failed)
 }
 
 // 8 take over: a failed client is in rescue, with a rescuer that knows nothing yet.
-pub fn take_over(me: Client, found: Standing, records: Records) -> Outcome
-    ensures { result ≡ stand_of me.0 found Standing.Failed Standing.InRescue records }
+pub fn take_over(by: Caller) -> Outcome<Records>
+    ensures { result ≡ stand_of by.me.0 by.found Standing.Failed Standing.InRescue by.records }
 {
-    stand_as(me, found, Standing::Failed, Standing::InRescue, records)
+    stand_as(by, Standing::Failed, Standing::InRescue)
 }
 
 // 10 rescuer fails: a client in rescue has failed again; the rescuer's private words are lost.
-pub fn rescuer_fails(me: Client, found: Standing, records: Records) -> Outcome
-    ensures { result ≡ stand_of me.0 found Standing.InRescue Standing.Failed records }
+pub fn rescuer_fails(by: Caller) -> Outcome<Records>
+    ensures { result ≡ stand_of by.me.0 by.found Standing.InRescue Standing.Failed by.records }
 {
-    stand_as(me, found, Standing::InRescue, Standing::Failed, records)
+    stand_as(by, Standing::InRescue, Standing::Failed)
 }
 
-// Whether a search found nothing.
-fn found_nothing(found: Found) -> bool
-    ensures { result ≡ found_nothing found }
+// Leave: of a running client with nothing under way and no entries.
+fn let_go(by: Caller, cells: &[u8]) -> Result<Outcome<Records>, Answer>
+    ensures { result
+        ≡ let_through (asks_to_leave by.me.0 by.found cells.now by.records) (leaves by.me.0 by.records) }
 {
-    match found {
-        Found::Nothing => true,
-        Found::At(_, _) => false,
-    }
+    check(by.found == Standing::Running, Answer::WrongStanding)?;
+    check(by.records.client.is_idle(), Answer::WrongMoment)?;
+    check(lowest_full(cells, by.me).is_none(), Answer::StillHolding)?;
+    Ok(accepted(by.records, Store::Standing(by.me, Standing::Absent)))
 }
 
-// 2 leave: a running client with nothing under way and no entries is absent.
-pub fn leave(me: Client, found: Standing, cells: &[u8], records: Records) -> Outcome
-    ensures { result ≡ leave_of me.0 found cells.now records }
+// 2 leave: such a client is absent.
+#[tactic(auto, using(calls::proofs::LetThrough::settles))]
+pub fn leave(by: Caller, cells: &[u8]) -> Outcome<Records>
+    ensures { result ≡ leave_of by.me.0 by.found cells.now by.records }
 {
-    if !stands(Standing::Running, found) {
-        return refused(Answer::WrongStanding, records);
-    }
-    let client = records.client;
-    if !client.is_idle() {
-        return refused(Answer::WrongMoment, records);
-    }
-    if !found_nothing(lowest_full(cells, me)) {
-        return refused(Answer::StillHolding, records);
-    }
-    accepted(records, Store::Standing(me, Standing::Absent))
+    settled(by.records, let_go(by, cells))
 }

@@ -1,60 +1,36 @@
-// Calls by the numbers of their records. What is asked of a client is taken apart here and nowhere else in this
-// program.
+// Calls and the records of four bytes that name them.
 use calls::{Act, Call};
+use decode::{RECORD, decode};
 
-// The numbers of the acts that the program tells apart.
-pub(crate) const RELEASE: u64 = 5;
+// A record: call, client, cell and slot.
+pub(crate) type Record = [u8; RECORD];
 
-pub(crate) const STEP: u64 = 6;
+// A step of a client that there is none: it is refused, and changes nothing.
+const NOBODYS_STEP: Call = Call {
+    client: 8,
+    act: Act::Step,
+};
 
-pub(crate) const FAIL: u64 = 7;
-
-pub(crate) const RESCUE_STEP: u64 = 9;
-
-// A call's record: which act, of which client, with which cell and slot; 0 where it names none.
-#[derive(Clone, Copy)]
-pub(crate) struct Record {
-    pub(crate) act: u64,
-    pub(crate) client: u64,
-    pub(crate) cell: u64,
-    pub(crate) slot: u64,
+// The call that a sweep plays for a record. No Option: what names no known call is played, refused and printed as
+// nobody's step, and what the program prints may not change.
+pub(crate) fn swept_call(record: Record) -> Call {
+    decode(record).unwrap_or(NOBODYS_STEP)
 }
 
-// A call of a client.
-pub(crate) fn asked(client: u64, act: Act) -> Call {
-    Call { client, act }
-}
-
-// A call that is refused: there is no such client.
-pub(crate) fn asked_of_nobody() -> Call {
-    asked(8, Act::Step)
-}
-
-// The record of a call.
-pub(crate) fn record_of(call: Call) -> Record {
-    let client = call.client;
-    let act = call.act;
-    match act {
-        Act::Join => recorded(1, client, 0, 0),
-        Act::Leave => recorded(2, client, 0, 0),
-        Act::Lease(cell, slot) => recorded(3, client, cell, slot),
-        Act::Attach(cell, slot) => recorded(4, client, cell, slot),
-        Act::Release(cell) => recorded(RELEASE, client, cell, 0),
-        Act::Step => recorded(STEP, client, 0, 0),
-        Act::Fail => recorded(FAIL, client, 0, 0),
-        Act::TakeOver => recorded(8, client, 0, 0),
-        Act::RescueStep => recorded(RESCUE_STEP, client, 0, 0),
-        Act::RescuerFails => recorded(10, client, 0, 0),
-        Act::LookUp(cell) => recorded(11, client, cell, 0),
-    }
-}
-
-// A record of four numbers.
-fn recorded(act: u64, client: u64, cell: u64, slot: u64) -> Record {
-    Record {
-        act,
-        client,
-        cell,
-        slot,
-    }
+// The numbers of a call's record: which call, of which client, with which cell and slot; 0 where it names none.
+pub(crate) fn record_numbers(call: Call) -> [u64; 4] {
+    let (number, cell, slot) = match call.act {
+        Act::Join => (1, 0, 0),
+        Act::Leave => (2, 0, 0),
+        Act::Lease(cell, slot) => (3, cell, slot),
+        Act::Attach(cell, slot) => (4, cell, slot),
+        Act::Release(cell) => (5, cell, 0),
+        Act::Step => (6, 0, 0),
+        Act::Fail => (7, 0, 0),
+        Act::TakeOver => (8, 0, 0),
+        Act::RescueStep => (9, 0, 0),
+        Act::RescuerFails => (10, 0, 0),
+        Act::LookUp(cell) => (11, cell, 0),
+    };
+    [number, call.client, cell, slot]
 }

@@ -1,100 +1,74 @@
-// The choices of one run: where more than one call could come next, which of them came. Runs differ in their choices
-// only, so going through all choices is going through all placements.
+// The choices of one run: where more than one actor could come next, which of them came. Runs differ in their choices
+// only, so going through all choices is going through all placements. Two runs share their calls up to the first choice
+// that they make differently: the run before each choice is kept, and the next run goes on from there.
+use crate::run::Run;
+use std::alloc::{AllocError, Global};
 
-// The picks so far, out of how many, and how many of them the run was told to make. After those it takes the first.
+// How many choices of a run are kept; after those it takes the first of everything.
+const MOST: usize = 96;
+
+// A choice: the run before it, which pick was made, and out of how many.
 #[derive(Clone, Copy)]
-pub(crate) struct Choices {
-    picks: [u8; 96],
-    widths: [u8; 96],
-    told: usize,
-    pub(crate) made: usize,
+pub(crate) struct Choice {
+    pub(crate) before: Run,
+    pub(crate) pick: usize,
+    width: usize,
 }
 
-// Nothing told: the first of everything.
-pub(crate) fn first_choices() -> Choices {
-    Choices {
-        picks: [0u8; 96],
-        widths: [0u8; 96],
-        told: 0,
-        made: 0,
+// The choices that the run has made.
+#[derive(Drop)]
+pub(crate) struct Choices {
+    made: Vec<Choice>,
+}
+
+impl Choice {
+    // The pick that comes after the one that was made.
+    fn other_pick(&self) -> Option<usize> {
+        let pick = self.pick.checked_add(1)?;
+        (pick < self.width).then_some(pick)
     }
 }
 
 impl Choices {
-    // The pick that comes next.
-    pub(crate) fn pick(self) -> u8 {
-        let at = self.made;
-        if at < self.told {
-            if at < 96 {
-                return self.picks[at];
-            }
+    // No choice yet.
+    pub(crate) fn new(alloc: Global) -> Choices {
+        Choices {
+            made: Vec::new(alloc),
         }
-        0
-    }
-
-    // After that pick, out of `width`.
-    pub(crate) fn taken(self, width: u8) -> Choices {
-        let at = self.made;
-        let pick = self.pick();
-        let mut next = self;
-        if at < 96 {
-            next.picks[at] = pick;
-            next.widths[at] = width;
-            next.made = at + 1;
-        }
-        next
     }
 
     // Whether the run had more choices than are kept: then not every placement was gone through.
-    pub(crate) fn is_full(self) -> bool {
-        96 <= self.made
+    pub(crate) fn is_full(&self) -> bool {
+        MOST <= self.made.len()
     }
 
-    // The same choices, to be made again from the start.
-    pub(crate) fn again(self) -> Choices {
-        let mut next = self.from(0);
-        next.told = self.made;
-        next
-    }
-
-    // How many picks are kept for the next run: up to the last that was not the last of its choice.
-    fn kept(self) -> usize {
-        for last in (0..self.made).rev() {
-            if last < 96 {
-                if self.picks[last] % 255 + 1 < self.widths[last] {
-                    return last + 1;
-                }
-            }
+    // Keeps a choice out of `width` that the run makes next, its first pick.
+    pub(crate) fn add(&mut self, before: &Run, width: usize) -> Result<(), AllocError> {
+        if !self.is_full() {
+            self.made.push(Choice {
+                before: *before,
+                pick: 0,
+                width,
+            })?;
         }
-        0
+        Ok(())
     }
 
-    // The choices of the next run; nothing is told where there is none.
-    pub(crate) fn following(self) -> Choices {
-        let kept = self.kept();
-        let mut next = first_choices();
-        if kept == 0 {
-            return next;
-        }
-        let last = kept - 1;
-        if last < 96 {
-            let pick = self.picks[last];
-            next = self;
-            next.picks[last] = (pick % 255) + 1;
-        }
-        next.told = kept;
-        next
+    // The picks that were made.
+    pub(crate) fn picks(&self) -> Result<Vec<usize>, AllocError> {
+        let picks = self.made.iter().map(|choice| choice.pick);
+        picks.collect(*self.made.allocator())
     }
 
-    // The place of the last pick that is told; past every place where none is.
-    pub(crate) fn last_told(self) -> usize {
-        if self.told == 0 { 96 } else { self.told - 1 }
-    }
-
-    // These choices, to be made from a place on.
-    pub(crate) fn from(self, made: usize) -> Choices {
-        let mut next = self;
-        next.made = made;
-        next
+    // Goes back to the last choice that has a pick left and makes that; nothing where there is none.
+    pub(crate) fn go_back(&mut self) -> Option<Choice> {
+        let last = self
+            .made
+            .iter()
+            .rposition(|choice| choice.other_pick().is_some())?;
+        self.made.truncate(last.saturating_add(1));
+        let choice = self.made.last_mut()?;
+        choice.pick = choice.other_pick()?;
+        Some(*choice)
     }
 }

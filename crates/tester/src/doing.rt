@@ -1,123 +1,94 @@
-// What a call performs, in numbers: 1 to 6 a stage of the client, 11 to 16 a step of the rescue, 21 to 26 a stage of
-// the release that the rescuer has opened, and 0 where nothing is under way.
-use crate::acts::{RESCUE_STEP, STEP, record_of};
-use block::{Entry, Kind, Operation};
-use calls::{Call, Records};
-use numbers::Client;
-use rescue::{RescuerRecord, RescuerStep};
+// What a call performs: a stage of the client, or a step of the rescue, which may be a stage of the release that the
+// rescuer has opened.
+ghost use Rattle.std.specs.Prelude.{◌≤◌};
+
+use block::Operation;
+use calls::{Act, Call, Records};
+use numbers::answers::Answer;
+use rescue::RescuerStep;
 use stages::{ClientRecord, Stage};
 
-// The step, the row that condition 2 reads, and the operation that it is a step of (kind 0: none).
+// A step: the client's record that says which stage, or the rescuer's step.
 #[derive(Clone, Copy)]
-pub(crate) struct Doing {
-    pub(crate) step: u64,
-    pub(crate) row: u64,
-    pub(crate) kind: u64,
-    pub(crate) cell: u64,
-    pub(crate) slot: u64,
+pub(crate) enum Doing {
+    Client(ClientRecord),
+    Rescuer(RescuerStep),
 }
 
-// A step of no operation.
-fn bare(step: u64) -> Doing {
-    Doing {
-        step,
-        row: 0,
-        kind: 0,
-        cell: 0,
-        slot: 0,
+// A stage's number, 0 where nothing is under way.
+fn stage_number(record: ClientRecord) -> u64
+    ensures { result ≤ 6 }
+{
+    match record.stage {
+        Stage::Idle => 0,
+        Stage::Load(_) => 1,
+        Stage::Note(_, _) => 2,
+        Stage::Log(_, _) => 3,
+        Stage::Swap(_, _) => 4,
+        Stage::Cell(_, _) => 5,
+        Stage::Era(_, _) => 6,
     }
 }
 
-// A kind's number.
-pub(crate) fn kind_number(kind: Kind) -> u64 {
-    match kind {
-        Kind::Lease => 1,
-        Kind::Attach => 2,
-        Kind::Release => 3,
+// What is printed of an operation: its kind (1 lease, 2 attach, 3 release), cell and slot; 0 where there is none.
+pub(crate) fn operation_numbers(op: Option<Operation>) -> [u64; 3] {
+    op.map_or([0; 3], |op| {
+        [op.kind as u64 + 1, op.cell as u64, op.slot.0 as u64]
+    })
+}
+
+impl Doing {
+    // The number that is printed: 1 to 6 a stage of the client, 11 to 16 a step of the rescue, 21 to 26 a stage of the
+    // release that the rescuer has opened; 0 of a client with nothing under way.
+    pub(crate) fn number(self) -> u64 {
+        match self {
+            Doing::Client(record) => stage_number(record),
+            Doing::Rescuer(RescuerStep::ReadLog) => 11,
+            Doing::Rescuer(RescuerStep::Condition1(_)) => 12,
+            Doing::Rescuer(RescuerStep::Condition2(_, _)) => 13,
+            Doing::Rescuer(RescuerStep::Cell(_)) => 14,
+            Doing::Rescuer(RescuerStep::Era) => 15,
+            Doing::Rescuer(RescuerStep::Search) => 16,
+            Doing::Rescuer(RescuerStep::Release(record)) => 20 + stage_number(record),
+        }
     }
-}
 
-// A step of an operation.
-fn of_operation(step: u64, op: Operation) -> Doing {
-    let kind = op.kind;
-    let slot = op.slot;
-    Doing {
-        step,
-        row: 0,
-        kind: kind_number(kind),
-        cell: op.cell as u64,
-        slot: slot.0 as u64,
+    // The number of the client whose row condition 2 reads; 0 where no row is read.
+    pub(crate) fn row(self) -> u64 {
+        match self {
+            Doing::Rescuer(RescuerStep::Condition2(_, row)) => row.0 as u64,
+            _ => 0,
+        }
     }
-}
 
-// A step of the logged operation.
-fn of_entry(step: u64, entry: Entry) -> Doing {
-    let op = entry.operation;
-    of_operation(step, op)
-}
-
-// The stage that a client's record stands at.
-pub(crate) fn by_client(record: ClientRecord) -> Doing {
-    let stage = record.stage;
-    match stage {
-        Stage::Idle => bare(0),
-        Stage::Load(op) => of_operation(1, op),
-        Stage::Note(op, _) => of_operation(2, op),
-        Stage::Log(op, _) => of_operation(3, op),
-        Stage::Swap(op, _) => of_operation(4, op),
-        Stage::Cell(op, _) => of_operation(5, op),
-        Stage::Era(op, _) => of_operation(6, op),
-    }
-}
-
-// Condition 2 at the row of client `j`.
-fn at_row(entry: Entry, j: Client) -> Doing {
-    let mut doing = of_entry(13, entry);
-    doing.row = j.0 as u64;
-    doing
-}
-
-// A stage of the release that the rescuer has opened.
-fn by_release(record: ClientRecord) -> Doing {
-    let mut doing = by_client(record);
-    if doing.step <= 6 {
-        doing.step += 20;
-    }
-    doing
-}
-
-// The step that a rescuer's record stands at.
-pub(crate) fn by_rescuer(record: RescuerRecord) -> Doing {
-    let step = record.step;
-    match step {
-        RescuerStep::ReadLog => bare(11),
-        RescuerStep::Condition1(entry) => of_entry(12, entry),
-        RescuerStep::Condition2(entry, j) => at_row(entry, j),
-        RescuerStep::Cell(entry) => of_entry(14, entry),
-        RescuerStep::Era => bare(15),
-        RescuerStep::Search => bare(16),
-        RescuerStep::Release(release) => by_release(release),
+    // The operation that it is a step of.
+    pub(crate) fn operation(self) -> Option<Operation> {
+        match self {
+            Doing::Client(record) | Doing::Rescuer(RescuerStep::Release(record)) => record.open(),
+            Doing::Rescuer(RescuerStep::Condition1(entry))
+            | Doing::Rescuer(RescuerStep::Condition2(entry, _))
+            | Doing::Rescuer(RescuerStep::Cell(entry)) => Some(entry.operation),
+            Doing::Rescuer(_) => None,
+        }
     }
 }
 
 // Whether an answer says that the step was performed: no refusal before it.
-fn was_performed(answer: u64) -> bool {
-    answer == 0 || answer == 7 || answer == 8 || 100 <= answer
+fn was_performed(answer: Answer) -> bool {
+    matches!(
+        answer,
+        Answer::Accepted | Answer::SlotHeld | Answer::SlotFree | Answer::Finished | Answer::SwapLost
+    )
 }
 
-// What a call that was answered so performed.
-pub(crate) fn performed(call: Call, given: Records, answer: u64) -> Doing {
+// What a call that was given those records and answered so performed.
+pub(crate) fn performed(call: Call, given: Records, answer: Answer) -> Option<Doing> {
     if !was_performed(answer) {
-        return bare(0);
+        return None;
     }
-    let asked = record_of(call);
-    if asked.act == RESCUE_STEP {
-        let rescuer = given.rescuer;
-        return by_rescuer(rescuer);
+    match call.act {
+        Act::Step => Some(Doing::Client(given.client)),
+        Act::RescueStep => Some(Doing::Rescuer(given.rescuer.step)),
+        _ => None,
     }
-    if asked.act == STEP {
-        let client = given.client;
-        return by_client(client);
-    }
-    bare(0)
 }

@@ -1,144 +1,147 @@
 // The ledger that a run is held to, kept from the history alone: a won lease or attach swap enters a line, the won
 // release swap strikes it out. It reads no count and no cell. A line stands at 16 times its client plus its cell.
-use crate::acts::{FAIL, RELEASE, record_of};
-use crate::doing::{Doing, by_client, performed};
-use crate::words::is_header;
-use calls::{Call, Outcome, Records};
+use crate::doing::{Doing, performed};
+use block::store::Store;
+use block::{ALL_CELLS, Kind, Operation};
+use calls::{Act, Call, Records};
+use numbers::answers::Answer;
+use numbers::{CELLS, CLIENTS, Era, Slot};
+use stages::{ClientRecord, Outcome, Stage};
 
-// Each line's slot, 255 where there is none; its phase, 0 swapped, 1 written, 2 its release is open; and for each
-// client that failed, the own era that the end of its rescue must leave.
+// How far a line is, with the number that is printed: its swap was won, its cell is written, its release is open.
+#[derive(Clone, Copy, PartialEq, Eq)]
+pub(crate) enum Phase {
+    Swapped = 0,
+    Written = 1,
+    Releasing = 2,
+}
+
+// A line: the slot that it names, and how far it is.
+#[derive(Clone, Copy, PartialEq, Eq)]
+pub(crate) struct Line {
+    pub(crate) slot: Slot,
+    pub(crate) phase: Phase,
+}
+
+// The lines of all cells, and for each client that failed the own era that the end of its rescue must leave.
 #[derive(Clone, Copy)]
 pub(crate) struct Ledger {
-    pub(crate) slots: [u8; 128],
-    pub(crate) phases: [u8; 128],
-    pub(crate) due: [u64; 8],
+    pub(crate) lines: [Option<Line>; ALL_CELLS],
+    pub(crate) due: [Era; CLIENTS],
 }
 
-// No line.
-pub(crate) fn no_lines() -> Ledger {
-    Ledger {
-        slots: [255u8; 128],
-        phases: [0u8; 128],
-        due: [0u64; 8],
+impl From<Phase> for u64 {
+    fn from(phase: Phase) -> u64 {
+        phase as u64
     }
 }
 
-// Where a client's cell has its line; 128 where there is no such cell.
-fn line_at(client: u64, cell: u64) -> usize {
-    if 8 <= client {
-        return 128;
+impl Line {
+    // Whether a look up shows it.
+    pub(crate) fn is_written(self) -> bool {
+        self.phase == Phase::Written
     }
-    if 16 <= cell {
-        return 128;
-    }
-    (client * 16 + cell) as usize
+}
+
+// Whether a client that fails there has won the swap of its operation and not yet raised its era.
+fn is_past_swap(record: ClientRecord) -> bool {
+    matches!(record.stage, Stage::Cell(_, _) | Stage::Era(_, _))
 }
 
 impl Ledger {
-    // A line entered, in its first phase.
-    fn entered(self, client: u64, doing: Doing) -> Ledger {
-        let at = line_at(client, doing.cell);
-        let mut next = self;
-        if at < 128 {
-            next.slots[at] = (doing.slot % 64) as u8;
-            next.phases[at] = 0;
+    // No line.
+    pub(crate) fn new() -> Ledger {
+        Ledger {
+            lines: [None; ALL_CELLS],
+            due: [Era(0); CLIENTS],
         }
-        next
     }
 
-    // A line struck out, where it names that slot.
-    fn struck(self, client: u64, doing: Doing) -> Ledger {
-        let at = line_at(client, doing.cell);
-        let mut next = self;
-        if at < 128 {
-            if next.slots[at] as u64 == doing.slot {
-                next.slots[at] = 255;
-            }
-        }
-        next
+    // The line of a client's cell.
+    fn line(&mut self, client: u64, cell: u64) -> Option<&mut Option<Line>> {
+        let lines = self.lines.chunks_exact_mut(CELLS).nth(client as usize)?;
+        lines.get_mut(cell as usize)
     }
 
-    // A line in another phase.
-    fn turned(self, client: u64, cell: u64, phase: u8) -> Ledger {
-        let at = line_at(client, cell);
-        let mut next = self;
-        if at < 128 {
-            next.phases[at] = phase;
+    // Turns a line to another phase.
+    fn turn(&mut self, client: u64, cell: u64, phase: Phase) {
+        if let Some(Some(line)) = self.line(client, cell) {
+            line.phase = phase;
         }
-        next
+    }
+
+    // After a swap that was won for a client: a release strikes out its line where that names its slot, another
+    // operation enters one.
+    fn won(&mut self, client: u64, op: Operation) {
+        let Some(line) = self.line(client, op.cell as u64) else {
+            return;
+        };
+        *line = match op.kind {
+            Kind::Release => line.filter(|line| line.slot != op.slot),
+            Kind::Lease | Kind::Attach => Some(Line {
+                slot: op.slot,
+                phase: Phase::Swapped,
+            }),
+        };
     }
 
     // The own era that is due where the client fails: one more where its operation stands past its won swap.
-    fn failed(self, client: u64, era: u64, past_swap: bool) -> Ledger {
-        let mut next = self;
-        if client < 8 {
-            let at = client as usize;
-            next.due[at] = if past_swap { era % 4294967296 + 1 } else { era };
+    fn failed(&mut self, client: u64, record: ClientRecord, era: Era) {
+        if let Some(due) = self.due.get_mut(client as usize) {
+            *due = if is_past_swap(record) {
+                era.raise()
+            } else {
+                era
+            };
         }
-        next
     }
 
-    // The same after a release swap that the rescuer won for the client.
-    fn rescued(self, client: u64) -> Ledger {
-        let mut next = self;
-        if client < 8 {
-            let at = client as usize;
-            let due = next.due[at];
-            if due < 4294967296 {
-                next.due[at] = due + 1;
-            }
+    // One more is due after a swap that the rescuer won for the client.
+    fn rescued(&mut self, client: u64) {
+        if let Some(due) = self.due.get_mut(client as usize) {
+            *due = due.raise();
         }
-        next
-    }
-
-    // After a won swap: by the client, or by its rescuer.
-    fn won(self, client: u64, doing: Doing) -> Ledger {
-        if doing.kind != 3 {
-            return self.entered(client, doing);
-        }
-        let next = self.struck(client, doing);
-        if doing.step == 24 {
-            return next.rescued(client);
-        }
-        next
     }
 
     // After a call that performed a step.
-    fn after_step(self, client: u64, doing: Doing, outcome: Outcome) -> Ledger {
-        let store = outcome.store;
-        if is_header(store) {
-            return self.won(client, doing);
+    fn keep_step(&mut self, client: u64, doing: Doing, store: Store) {
+        let Some(op) = doing.operation() else {
+            return;
+        };
+        match (store, doing) {
+            (Store::Header(_, _), Doing::Client(_)) => self.won(client, op),
+            (Store::Header(_, _), Doing::Rescuer(_)) => {
+                self.won(client, op);
+                self.rescued(client);
+            }
+            (Store::Cell(_, _, _), Doing::Client(_)) => {
+                self.turn(client, op.cell as u64, Phase::Written)
+            }
+            _ => {}
         }
-        if doing.step == 5 {
-            return self.turned(client, doing.cell, 1);
-        }
-        self
     }
 
-    // After an accepted call that is no step, of a client with own era `era`; `before` is what was under way.
-    fn after_opening(self, call: Call, before: Doing, era: u64) -> Ledger {
-        let asked = record_of(call);
-        if asked.act == RELEASE {
-            return self.turned(asked.client, asked.cell, 2);
+    // After an accepted call that is no step, of a client with that record and own era.
+    fn keep_opening(&mut self, call: Call, record: ClientRecord, era: Era) {
+        match call.act {
+            Act::Release(cell) => self.turn(call.client, cell, Phase::Releasing),
+            Act::Fail => self.failed(call.client, record, era),
+            _ => {}
         }
-        if asked.act == FAIL {
-            return self.failed(asked.client, era, 5 <= before.step);
-        }
-        self
     }
 
     // After a call: of the records that it was given, its outcome and the own era before it.
-    pub(crate) fn after(self, call: Call, given: Records, outcome: Outcome, era: u64) -> Ledger {
-        let answer = outcome.answer;
-        let number = answer.number();
-        let doing = performed(call, given, number);
-        if doing.step != 0 {
-            return self.after_step(call.client, doing, outcome);
+    pub(crate) fn keep(
+        &mut self,
+        call: Call,
+        given: Records,
+        outcome: &Outcome<Records>,
+        era: Era,
+    ) {
+        if let Some(doing) = performed(call, given, outcome.answer) {
+            self.keep_step(call.client, doing, outcome.store);
+        } else if outcome.answer == Answer::Accepted {
+            self.keep_opening(call, given.client, era);
         }
-        if number == 0 {
-            let client = given.client;
-            return self.after_opening(call, by_client(client), era);
-        }
-        self
     }
 }

@@ -11,27 +11,29 @@ mod endings;
 mod ledger;
 mod placement;
 mod print;
+mod run;
 mod scene;
+mod sum;
 mod sweep;
 mod watch;
 mod words;
 
+use numbers::Era;
+use scene::Scene;
 use std::env::Env;
 use std::io;
 
 fn main(rt: HostRuntime) -> io::Result<()> {
     let mut word = [0u8; 4096];
     let n = rt.arg(1, &mut word).unwrap_or(0);
-    if n == 0 {
-        print::heading(&rt, b"usage: tester watch | given | sweep | trapped")?;
-        return print::line_end(&rt);
-    }
     let mut input = rt.stdin();
-    match word[0] {
-        b'w' => watch::watch(&rt, &mut input, scene::fresh_scene()),
-        b'g' => watch::watch_given(&rt, &mut input),
-        b's' => sweep::sweep(&rt, &mut input, false),
-        b't' => sweep::sweep(&rt, &mut input, true),
+    // The first byte alone decides, as it always did: `args` would give whole words, and refuse one that is not UTF-8.
+    match &word[..n] {
+        [] => println!(rt; "usage: tester watch | given | sweep | trapped"),
+        [b'w', ..] => watch::watch(&rt, &mut input, Scene::fresh()),
+        [b'g', ..] => watch::watch_given(&rt, &mut input),
+        [b's', ..] => sweep::sweep(&rt, &mut input, Scene::fresh()),
+        [b't', ..] => sweep::sweep(&rt, &mut input, Scene::given(Era(0))),
         _ => Ok(()),
     }
 }

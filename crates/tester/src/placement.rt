@@ -1,307 +1,246 @@
-// Who comes next in a run of the sweep. The set-up is played, the victim opens its operation and is killed after any of
-// its steps; then its rescue runs to the end, and meanwhile the rescuer and its successor may be killed after any of
-// their steps, and another host may play its own operation, in so many parts as the placement allows.
-ghost use Rattle.std.specs.Prelude.{◌≤◌};
-
-use crate::acts::{asked, asked_of_nobody};
-use crate::choices::Choices;
+// Who comes next in a run of the sweep. After the set-up the victim opens its operation and is killed after any of its
+// steps; then its rescue runs to the end, and meanwhile the rescuer and its successor may be killed after any of their
+// steps, and another host may play its own operation, in so many parts as the section allows.
+use crate::doing::Doing;
+use crate::scene::Scene;
 use calls::{Act, Call};
-use decode::{Decoded, decode};
+use numbers::Slot;
+use numbers::answers::Answer;
+use rescue::RescuerStep;
 
-// What is swept: the victim's opening call and the other host's, how many rescuers may be killed, in how many parts the
-// other host may play, and whether own eras start at 0.
-#[derive(Clone, Copy)]
+// What is swept: the world that every run begins in, the set-up's calls, the opening calls of the victim and of the
+// other host.
+#[derive(Drop)]
 pub(crate) struct Plan {
+    pub(crate) begin: Scene,
+    pub(crate) set_up: Vec<Call>,
     pub(crate) opening: Call,
-    pub(crate) victim: u64,
-    pub(crate) other: Call,
-    pub(crate) host: u64,
-    pub(crate) slot: u8,
-    pub(crate) set_ups: usize,
-    pub(crate) kills: u64,
-    pub(crate) parts: u64,
-    pub(crate) trapped: bool,
+    pub(crate) other: Option<Call>,
 }
 
-// Who makes the next call.
+// The other host's operation: its opening call, and in how many parts it may be played.
+#[derive(Clone, Copy)]
+pub(crate) struct Other {
+    pub(crate) opening: Call,
+    pub(crate) parts: u64,
+}
+
+// What a section plays of a plan: the slot whose count is told, how many rescuers may be killed, and the other host's
+// operation.
+#[derive(Clone, Copy)]
+pub(crate) struct Section<'a> {
+    pub(crate) plan: &'a Plan,
+    pub(crate) slot: Slot,
+    pub(crate) kills: u64,
+    pub(crate) other: Option<Other>,
+}
+
+// Who makes the next call; the other host with its opening call.
 #[derive(Clone, Copy)]
 pub(crate) enum Actor {
-    SetUp,
     Victim,
     Death,
     Rescuer,
+    Other(Call),
     RescuerDeath,
-    Other,
-    Nobody,
 }
 
-// How far a run has come. An operation is 0 before its opening, 1 under way, 2 over.
+// Those who may make the next call, in the order of the picks.
+#[derive(Clone, Copy)]
+pub(crate) struct Actors([Option<Actor>; 5]);
+
+// Where an operation or a rescue stands.
+#[derive(Clone, Copy, PartialEq, Eq)]
+enum Moment {
+    Ahead,
+    UnderWay,
+    Over,
+}
+
+// How far a run has come after its set-up: the victim's operation, its rescue, the other host's operation.
 #[derive(Clone, Copy)]
 pub(crate) struct Progress {
-    pub(crate) set_up: usize,
-    victim: u64,
+    victim: Moment,
     dead: bool,
     pub(crate) steps: u64,
-    in_rescue: bool,
+    rescue: Moment,
     pub(crate) rescue_steps: u64,
     pub(crate) completed: bool,
     releasing: bool,
-    rescued: bool,
     kills: u64,
-    other: u64,
+    other: Moment,
     other_last: bool,
     parts: u64,
-    pub(crate) choices: Choices,
 }
 
-// Before the first call, with the choices to make.
-pub(crate) fn at_start(choices: Choices) -> Progress {
-    Progress {
-        set_up: 0,
-        victim: 0,
-        dead: false,
-        steps: 0,
-        in_rescue: false,
-        rescue_steps: 0,
-        completed: false,
-        releasing: false,
-        rescued: false,
-        kills: 0,
-        other: 0,
-        other_last: false,
-        parts: 0,
-        choices,
+impl Plan {
+    // The client that is killed.
+    pub(crate) fn victim(&self) -> u64 {
+        self.opening.client
     }
 }
 
-// One where a thing holds.
-fn one_if(holds: bool) -> u8
-    ensures { result ≤ 1 }
-{
-    if holds { 1 } else { 0 }
+impl Section<'_> {
+    // In how many parts the other host plays; 0 where it does not.
+    pub(crate) fn parts(&self) -> u64 {
+        self.other.map_or(0, |other| other.parts)
+    }
+
+    // What is asked of the victim, or of its rescuer.
+    fn of_victim(&self, act: Act) -> Call {
+        Call {
+            client: self.plan.victim(),
+            act,
+        }
+    }
 }
 
-// Whether an answer ends the operation of a step.
-fn ends(answer: u64) -> bool {
-    answer == 100 || answer == 7 || answer == 8
+impl Actors {
+    // Nobody: the run is over.
+    pub(crate) const NOBODY: Actors = Actors([None; 5]);
+
+    // Out of how many the next call is chosen.
+    pub(crate) fn width(&self) -> usize {
+        self.0.iter().flatten().count()
+    }
+
+    // The one that a pick names.
+    pub(crate) fn at(&self, pick: usize) -> Option<Actor> {
+        self.0.iter().flatten().nth(pick).copied()
+    }
 }
 
-// One more, within what a run can count.
-pub(crate) fn one_more(n: u64) -> u64 {
-    n % 4294967296 + 1
+impl Moment {
+    // Where an operation stands after a call of it that was answered so.
+    fn after(answer: Answer) -> Moment {
+        match answer {
+            Answer::Finished | Answer::SlotHeld | Answer::SlotFree => Moment::Over,
+            _ => Moment::UnderWay,
+        }
+    }
+
+    // The next call of the operation that a call opens.
+    fn call(self, opening: Call) -> Call {
+        match self {
+            Moment::Ahead => opening,
+            Moment::UnderWay | Moment::Over => Call {
+                client: opening.client,
+                act: Act::Step,
+            },
+        }
+    }
 }
 
 impl Progress {
-    // The same with other choices to make.
-    pub(crate) fn choosing(self, choices: Choices) -> Progress {
-        let mut next = self;
-        next.choices = choices;
-        next
-    }
-
-    // Whether the rescue can go on.
-    fn rescuer_may(self) -> bool {
-        self.dead && !self.rescued
-    }
-
-    // Whether the other host may play: its operation is not over, and this goes on a part or begins one of those that are
-    // allowed. After the rescue's end it plays what is left.
-    fn other_may(self, plan: Plan) -> bool {
-        if plan.parts == 0 || !self.dead || self.other == 2 {
-            return false;
+    // Before the victim's opening.
+    pub(crate) fn new() -> Progress {
+        Progress {
+            victim: Moment::Ahead,
+            dead: false,
+            steps: 0,
+            rescue: Moment::Ahead,
+            rescue_steps: 0,
+            completed: false,
+            releasing: false,
+            kills: 0,
+            other: Moment::Ahead,
+            other_last: false,
+            parts: 0,
         }
-        self.other_last || self.rescued || self.parts < plan.parts
+    }
+
+    // Whether the other host may play: the victim is dead, its own operation is not over, and this goes on a part or
+    // begins one of those that are allowed. After the rescue's end it plays what is left.
+    fn other_may(&self, other: Other) -> bool {
+        let begins = self.other_last || self.rescue == Moment::Over || self.parts < other.parts;
+        self.dead && self.other != Moment::Over && begins
     }
 
     // Whether the rescuer may be killed.
-    fn rescuer_may_die(self, plan: Plan) -> bool {
-        self.in_rescue && self.kills < plan.kills
+    fn rescuer_may_die(&self, section: &Section) -> bool {
+        self.rescue == Moment::UnderWay && self.kills < section.kills
     }
 
-    // Out of how many the next call is chosen: 0 at the end of the run.
-    pub(crate) fn width(self, plan: Plan) -> u8 {
-        if self.set_up < plan.set_ups {
-            return 1;
-        }
-        if !self.dead {
-            return if self.victim == 1 { 2 } else { 1 };
-        }
-        one_if(self.rescuer_may())
-            + one_if(self.other_may(plan))
-            + one_if(self.rescuer_may_die(plan))
-    }
-
-    // Who comes next once the victim is dead: the rescuer first, then the other host, then the rescuer's death.
-    fn after_death(self, plan: Plan, pick: u8) -> Actor {
-        let mut left = pick;
-        if self.rescuer_may() {
-            if left == 0 {
-                return Actor::Rescuer;
-            }
-            left -= 1;
-        }
-        if self.other_may(plan) {
-            if left == 0 {
-                return Actor::Other;
-            }
-        }
-        if self.rescuer_may_die(plan) {
-            return Actor::RescuerDeath;
-        }
-        Actor::Nobody
-    }
-
-    // Who makes the next call, by the pick that the choices have.
-    pub(crate) fn actor(self, plan: Plan) -> Actor {
-        if self.set_up < plan.set_ups {
-            return Actor::SetUp;
-        }
-        let choices = self.choices;
-        let width = self.width(plan);
-        let pick = if width < 2 { 0 } else { choices.pick() };
-        if self.dead {
-            return self.after_death(plan, pick);
-        }
-        if self.victim == 2 || pick == 1 {
-            return Actor::Death;
-        }
-        Actor::Victim
+    // Who may make the next call: the victim, or its death once it is under way; after that the rescuer, then the other
+    // host, then the rescuer's death.
+    pub(crate) fn actors(&self, section: &Section) -> Actors {
+        let other = section.other.filter(|other| self.other_may(*other));
+        Actors([
+            (!self.dead && self.victim != Moment::Over).then_some(Actor::Victim),
+            (!self.dead && self.victim != Moment::Ahead).then_some(Actor::Death),
+            (self.dead && self.rescue != Moment::Over).then_some(Actor::Rescuer),
+            other.map(|other| Actor::Other(other.opening)),
+            self.rescuer_may_die(section).then_some(Actor::RescuerDeath),
+        ])
     }
 
     // The call that an actor makes.
-    pub(crate) fn call(self, actor: Actor, plan: Plan, set_up: &[u8]) -> Call {
-        let opening = plan.opening;
-        let other = plan.other;
+    pub(crate) fn call(&self, actor: Actor, section: &Section) -> Call {
         match actor {
-            Actor::SetUp => set_up_call(set_up, self.set_up),
-            Actor::Victim => {
-                if self.victim == 0 {
-                    opening
-                } else {
-                    asked(plan.victim, Act::Step)
-                }
-            }
-            Actor::Death => asked(plan.victim, Act::Fail),
-            Actor::Rescuer => {
-                if self.in_rescue {
-                    asked(plan.victim, Act::RescueStep)
-                } else {
-                    asked(plan.victim, Act::TakeOver)
-                }
-            }
-            Actor::RescuerDeath => asked(plan.victim, Act::RescuerFails),
-            Actor::Other => {
-                if self.other == 0 {
-                    other
-                } else {
-                    asked(plan.host, Act::Step)
-                }
-            }
-            Actor::Nobody => asked_of_nobody(),
+            Actor::Victim => self.victim.call(section.plan.opening),
+            Actor::Death => section.of_victim(Act::Fail),
+            Actor::Rescuer if self.rescue == Moment::UnderWay => section.of_victim(Act::RescueStep),
+            Actor::Rescuer => section.of_victim(Act::TakeOver),
+            Actor::RescuerDeath => section.of_victim(Act::RescuerFails),
+            Actor::Other(opening) => self.other.call(opening),
+        }
+    }
+
+    // After a call of an actor that was answered so and performed that.
+    pub(crate) fn after(self, actor: Actor, answer: Answer, doing: Option<Doing>) -> Progress {
+        match actor {
+            Actor::Victim => self.victim_played(answer),
+            Actor::Death => Progress { dead: true, ..self },
+            Actor::Rescuer => self.rescuer_played(answer, doing),
+            Actor::RescuerDeath => self.rescuer_died(),
+            Actor::Other(_) => self.other_played(answer),
         }
     }
 
     // After a call of the victim.
-    fn victim_played(self, answer: u64) -> Progress {
-        let mut next = self;
-        if self.victim == 1 {
-            next.steps = one_more(self.steps);
+    fn victim_played(self, answer: Answer) -> Progress {
+        let stepped = u64::from(self.victim == Moment::UnderWay);
+        Progress {
+            victim: Moment::after(answer),
+            steps: self.steps.saturating_add(stepped),
+            ..self
         }
-        next.victim = if ends(answer) { 2 } else { 1 };
-        next
     }
 
-    // After a take over or a rescue step, which performed `step`. What a rescuer completes before any of them has opened
-    // a release is the victim's own operation.
-    fn rescuer_played(self, answer: u64, step: u64) -> Progress {
-        let mut next = self;
-        next.other_last = false;
-        if self.in_rescue {
-            next.rescue_steps = one_more(self.rescue_steps);
+    // After a take over or a rescue step. What a rescuer completes before any of them has opened a release is the
+    // victim's own operation.
+    fn rescuer_played(self, answer: Answer, doing: Option<Doing>) -> Progress {
+        let stepped = u64::from(self.rescue == Moment::UnderWay);
+        let completes = matches!(doing, Some(Doing::Rescuer(RescuerStep::Era)));
+        let releases = matches!(doing, Some(Doing::Rescuer(RescuerStep::Release(_))));
+        Progress {
+            rescue: Moment::after(answer),
+            rescue_steps: self.rescue_steps.saturating_add(stepped),
+            completed: self.completed || (completes && !self.releasing),
+            releasing: self.releasing || releases,
+            other_last: false,
+            ..self
         }
-        next.in_rescue = answer != 100;
-        next.rescued = answer == 100;
-        next.releasing = self.releasing || 21 <= step;
-        next.completed = self.completed || (step == 15 && !self.releasing);
-        next
     }
 
     // After the rescuer's death.
     fn rescuer_died(self) -> Progress {
-        let mut next = self;
-        next.other_last = false;
-        next.in_rescue = false;
-        next.kills = one_more(self.kills);
-        next
+        Progress {
+            rescue: Moment::Ahead,
+            kills: self.kills.saturating_add(1),
+            other_last: false,
+            ..self
+        }
     }
 
     // After a call of the other host.
-    fn other_played(self, answer: u64) -> Progress {
-        let mut next = self;
-        if !self.other_last {
-            next.parts = one_more(self.parts);
+    fn other_played(self, answer: Answer) -> Progress {
+        let begun = u64::from(!self.other_last);
+        Progress {
+            other: Moment::after(answer),
+            other_last: true,
+            parts: self.parts.saturating_add(begun),
+            ..self
         }
-        next.other_last = true;
-        next.other = if ends(answer) { 2 } else { 1 };
-        next
-    }
-
-    // After a call of an actor, chosen out of `width`, that was answered so and performed `step`.
-    pub(crate) fn after(self, actor: Actor, width: u8, answer: u64, step: u64) -> Progress {
-        let mut chosen = self;
-        if 2 <= width {
-            let choices = self.choices;
-            let taken = choices.taken(width);
-            chosen.choices = taken;
-        }
-        match actor {
-            Actor::SetUp => chosen.set_up_played(),
-            Actor::Victim => chosen.victim_played(answer),
-            Actor::Death => chosen.died(),
-            Actor::Rescuer => chosen.rescuer_played(answer, step),
-            Actor::RescuerDeath => chosen.rescuer_died(),
-            Actor::Other => chosen.other_played(answer),
-            Actor::Nobody => chosen,
-        }
-    }
-
-    // After a call of the set-up.
-    fn set_up_played(self) -> Progress {
-        let mut next = self;
-        next.set_up = self.set_up % 65536 + 1;
-        next
-    }
-
-    // After the victim's death.
-    fn died(self) -> Progress {
-        let mut next = self;
-        next.dead = true;
-        next
-    }
-}
-
-// The record at a place of the set-up as a call; of what is no known call, one that is refused.
-fn set_up_call(set_up: &[u8], at: usize) -> Call {
-    let from = at % 65536 * 4;
-    if set_up.len() < 4 {
-        return asked_of_nobody();
-    }
-    if set_up.len() - 4 < from {
-        return asked_of_nobody();
-    }
-    known_call(
-        set_up[from],
-        set_up[from + 1],
-        set_up[from + 2],
-        set_up[from + 3],
-    )
-}
-
-// The call of four bytes; of what is no known call, one that is refused.
-pub(crate) fn known_call(call: u8, client: u8, cell: u8, slot: u8) -> Call {
-    let decoded = decode(call, client, cell, slot);
-    match decoded {
-        Decoded::Known(known) => known,
-        Decoded::Unknown => asked_of_nobody(),
     }
 }

@@ -1,3 +1,2 @@
-pub mod Spelling
 pub mod Filling
 pub mod Widths

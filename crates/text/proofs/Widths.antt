@@ -1,57 +1,54 @@
--- How many digits a number has, and its digits four at a time. Assumes nothing.
-use Prim.Native.Nat.{ℕ, zero, suc, ◌+◌, ◌*◌, ◌/◌, ◌%◌, ◌≤◌, ◌<◌}
-use mathlib.Core.Bool.{Bool, true, false}
+-- How many digits a number has, and that the library's text of it is these digits. Assumes nothing.
+use Prim.Native.Nat.{ℕ, zero, suc, max, ◌+◌, ◌*◌, ◌/◌, ◌%◌, ◌^◌, ◌≤◌, ◌<◌}
 use mathlib.Core.List.{List, [], ◌∷◌, ◌++◌}
 use mathlib.Core.Path.{◌≡◌, refl, sym, ap, ◌∙◌}
 use native.Mathlib.Omega.{arith}
-use borrow.Author.Tests.{lt-ltb, le-ltb, ltb-true, ltb-false}
-use lib.Dec.{ltb}
-use lib.ListN.{length, length-append}
-use Rattle.text.specs.Text.{spelled, width_from, width, decimal, line, slot_word, slot_line, number_size, line_size, slot_line_size, filled, Put}
-use Rattle.text.proofs.Spelling.{spelled_four, spelled_append}
-use Rattle.text.proofs.Filling.{decimal_length, put_length, put_then, put_as, put_digits}
+use native.Mathlib.Numerals.{add-one}
+use borrow.Author.Tests.{lt-ltb, le-ltb}
+use lib.ListN.{length, take, drop, length-append, take-append-drop}
+use Rattle.std.proofs.Common.{inl, inr}
+use Rattle.std.proofs.Math.Nat.{pow-suc, one-le-pow}
+use Rattle.std.proofs.lemmas.Bool.{cases_lt}
+use Rattle.std.proofs.lemmas.Fmt.{decimal_by_steps, decimal_nonempty, decimal_step, length-decimal-le}
+use Rattle.std.specs.Fmt as Fmt
+use Rattle.text.specs.Text.{spelled, width_from, width, decimal, line, slot_line, number_size, line_size, slot_line_size, Put}
 
--- either way a test goes
-by_test : {P : Type 0} (b : Bool) → (b ≡ true → P) → (b ≡ false → P) → P
-by_test true t f = t refl
-by_test false t f = f refl
+-- k digits are k bytes more
+spelled_length : (k n : ℕ) (a : List ℕ) → length (spelled k n a) ≡ k + length a
+unfolding spelled
+spelled_length zero n a = omega arith
+spelled_length (suc k) n a = spelled_length k (n / 10) ((48 + n % 10) ∷ a) ∙ (let z : k + suc (length a) ≡ suc k + length a = omega arith in z)
+
+-- what a text is put before does not change its digits
+spelled_append : (k n : ℕ) (a b : List ℕ) → spelled k n a ++ b ≡ spelled k n (a ++ b)
+unfolding spelled
+spelled_append zero n a b = refl
+spelled_append (suc k) n a b = spelled_append k (n / 10) ((48 + n % 10) ∷ a) b
 
 -- no more digits than are tried
 tries : (f k p n : ℕ) → width_from f k p n ≤ k + f
 tries zero k p n = omega arith
 tries (suc f) k p n =
-    by_test (ltb n p)
-    (λ t. rw t (omega arith))
-    (λ t. rw t (let h = tries f (k + 1) (p * 10) n in omega arith))
+    elim (cases_lt n p) [
+      | inl h ↦ rw (lt-ltb n p h) (omega arith)
+      | inr h ↦ rw (le-ltb n p h) (let t = tries f (k + 1) (p * 10) n in omega arith)
+    ]
 
-pub width_most : (n : ℕ) → width n ≤ number_size
-unfolding width
-width_most n = tries 19 1 10 n
+decimal_most : (n : ℕ) → length (decimal n) ≤ number_size
+unfolding decimal width
+decimal_most n = rw spelled_length (let t = tries 19 1 10 n in omega arith)
 
 -- a line is no longer than the longest
 pub line_most : (place number : ℕ) → length (line place number) ≤ line_size
 unfolding line
 line_most place number =
-    let a = width_most place in
-    let b = width_most number in
-    simp (length-append, decimal_length) (omega arith)
+    let a = decimal_most place in
+    let b = decimal_most number in
+    simp length-append (omega arith)
 
 pub slot_line_most : (slot count : ℕ) → length (slot_line slot count) ≤ slot_line_size
 unfolding slot_line
 slot_line_most slot count = let h = line_most slot count in omega arith
-
--- a slot's line put: the word, and the two numbers after it
-pub slot_line_put :
-    {o one two : List ℕ} {at end : ℕ} (slot count : ℕ) →
-    at + slot_line_size ≤ length o →
-    one ≡ filled o at slot_word →
-    Put one (at + 5) (line slot count) two end →
-    Put o at (slot_line slot count) two end
-unfolding slot_line
-slot_line_put slot count room word put =
-    let h = line_most slot count in
-    let e = put.ends in
-    put_then {t = slot_word} (record { ends = refl; fills = word }) put (omega arith)
 
 -- the first power of ten that is not tried
 above : ℕ → ℕ → ℕ
@@ -65,81 +62,71 @@ enough zero zero k p n a b = refl
 enough zero (suc g) k p n a b = rw (lt-ltb n p a)
 enough (suc f) zero k p n a b = rw (lt-ltb n p b)
 enough (suc f) (suc g) k p n a b =
-    by_test (ltb n p)
-    (λ t. rw t refl)
-    (λ t. rw t (enough f g (k + 1) (p * 10) n a b))
+    elim (cases_lt n p) [
+      | inl h ↦ rw (lt-ltb n p h) refl
+      | inr h ↦ rw (le-ltb n p h) (enough f g (k + 1) (p * 10) n a b)
+    ]
 
--- a number of four digits more
-shifted : (f k p n : ℕ) → width_from f (k + 4) (p * 10000) n ≡ width_from f k p (n / 10000) + 4
+-- a number of one digit more
+shifted : (f k p n : ℕ) → width_from f (k + 1) (p * 10) n ≡ width_from f k p (n / 10) + 1
 shifted zero k p n = refl
 shifted (suc f) k p n =
-    by_test (ltb (n / 10000) p)
-    (λ t. let h = ltb-true (n / 10000) p t in rw (t, lt-ltb n (p * 10000) (omega arith)) refl)
-    (λ t.
-    let h = ltb-false (n / 10000) p t in
-    let s : k + 4 + 1 ≡ k + 1 + 4 = omega arith in
-    let m : p * 10000 * 10 ≡ p * 10 * 10000 = omega arith in
-    rw (t, le-ltb n (p * 10000) (omega arith), s, m) (shifted f (k + 1) (p * 10) n))
+    elim (cases_lt (n / 10) p) [
+      | inl h ↦ rw (lt-ltb (n / 10) p h, lt-ltb n (p * 10) (omega arith)) refl
+      | inr h ↦ rw (le-ltb (n / 10) p h, le-ltb n (p * 10) (omega arith)) (shifted f (k + 1) (p * 10) n)
+    ]
 
-width_four : (n : ℕ) → 10000 ≤ n → n < 18446744073709551616 → width n ≡ width (n / 10000) + 4
+width_more : (n : ℕ) → 10 ≤ n → n < 2 ^ 64 → width n ≡ width (n / 10) + 1
 unfolding width above
-width_four n a b =
-    rw (le-ltb n 10 (omega arith), le-ltb n 100 (omega arith), le-ltb n 1000 (omega arith), le-ltb n 10000 (omega arith))
-    (shifted 15 1 10 n ∙ ap (λ (k : ℕ). k + 4) (enough 15 19 1 10 (n / 10000) (omega arith) (omega arith)))
+width_more n a b =
+    rw (le-ltb n 10 a)
+    (shifted 18 1 10 n ∙ ap (λ (k : ℕ). k + 1) (enough 18 19 1 10 (n / 10) (omega arith) (omega arith)))
 
--- the digits of a number above ten thousand: those of its ten thousands, and four more
-pub decimal_four :
-    (n : ℕ) → 10000 ≤ n → n < 18446744073709551616 → decimal n ≡ decimal (n / 10000) ++ spelled 4 (n % 10000) []
-unfolding decimal
-decimal_four n a b =
-    ap (λ (k : ℕ). spelled k n []) (width_four n a b)
-    ∙ spelled_four (width (n / 10000)) n []
-    ∙ sym (spelled_append (width (n / 10000)) (n / 10000) [] (spelled 4 (n % 10000) []))
-
--- the digits of a number below ten thousand
-pub one_digit : (n : ℕ) → n < 10 → decimal n ≡ (48 + n) ∷ []
+-- the library's text of a number is its digits
+digits_are : (n : ℕ) → n < 2 ^ 64 → Fmt.decimal n ≡ decimal n
 unfolding decimal width spelled
-one_digit n h = let e : n % 10 ≡ n = omega arith in rw (lt-ltb n 10 h, e)
+digits_are n b =
+    decimal_by_steps (λ m ds. m < 2 ^ 64 → ds ≡ decimal m)
+    (λ m h _. let e : m % 10 ≡ m = omega arith in rw (lt-ltb m 10 h, e) refl)
+    (λ m ds h e l.
+    ap (λ (x : List ℕ). x ++ ((48 + m % 10) ∷ [])) (e (omega arith))
+    ∙ spelled_append (width (m / 10)) (m / 10) [] ((48 + m % 10) ∷ [])
+    ∙ ap (λ (k : ℕ). spelled k m []) (sym (width_more m h l ∙ add-one (width (m / 10)))))
+    n b b
 
-pub two_digits : (n : ℕ) → 10 ≤ n → n < 100 → decimal n ≡ (48 + n / 10) ∷ (48 + n % 10) ∷ []
-unfolding decimal width spelled
-two_digits n a b =
-    let e : n / 10 % 10 ≡ n / 10 = omega arith in
-    rw (le-ltb n 10 a, lt-ltb n 100 b, e)
+-- a number with k digits or more after its first
+longer : (k n : ℕ) → 10 ^ k ≤ max n 1 → n < 2 ^ 64 → k < length (Fmt.decimal n)
+longer zero n h b = decimal_nonempty n b
+longer (suc k) n h b =
+    let s : 10 ^ suc k ≡ 10 ^ k * 10 = pow-suc 10 k in
+    let one : 1 ≤ 10 ^ k = one-le-pow k 10 (omega arith) in
+    let i = longer k (n / 10) (omega arith) (omega arith) in
+    rw (decimal_step n (omega arith) b) (simp length-append (omega arith))
 
-pub three_digits :
-    (n : ℕ) → 100 ≤ n → n < 1000 → decimal n ≡ (48 + n / 100) ∷ (48 + n / 10 % 10) ∷ (48 + n % 10) ∷ []
-unfolding decimal width spelled
-three_digits n a b =
-    let e : n / 10 / 10 % 10 ≡ n / 100 = omega arith in
-    rw (le-ltb n 10 (omega arith), le-ltb n 100 a, lt-ltb n 1000 b, e)
+-- the length of a number's text is one more than its logarithm
+pub log_length : (n k : ℕ) → n < 2 ^ 64 → 10 ^ k ≤ max n 1 → max n 1 < 10 * 10 ^ k → length (Fmt.decimal n) ≡ k + 1
+log_length n k b low high =
+    let s : 10 ^ suc k ≡ 10 ^ k * 10 = pow-suc 10 k in
+    let most = length-decimal-le (suc k) n (omega arith) (omega arith) b in
+    let least = longer k n low b in
+    omega arith
 
-pub four_digits : (n : ℕ) → 1000 ≤ n → n < 10000 → decimal n ≡ spelled 4 n []
-unfolding decimal width
-four_digits n a b = rw (le-ltb n 10 (omega arith), le-ltb n 100 (omega arith), le-ltb n 1000 a, lt-ltb n 10000 b)
-
--- the last four digits put after the others
-module _
-    {o one : List ℕ} {at end : ℕ} (n : ℕ) (large : 10000 ≤ n) (fits : n < 18446744073709551616)
-    (room : at + number_size ≤ length o) (upper : Put o at (decimal (n / 10000)) one end) where
-  within : end + 4 ≤ at + number_size
-  within =
-      let a = width_four n large fits in
-      let b = width_most n in
-      let c = decimal_length (n / 10000) in
-      let e = upper.ends in
-      omega arith
-
-  pub four_room : end + 4 ≤ length one
-  four_room =
-      let w = within in
-      let l = put_length upper (omega arith) in
-      omega arith
-
-  pub four_after :
-      {two : List ℕ} →
-      two ≡ filled one end (spelled 4 (n % 10000) []) →
-      Put o at (decimal n) two (end + 4) × (end + 4 ≤ at + number_size)
-  four_after {two} put =
-      let w = within in
-      (put_as (decimal_four n large fits) (put_then upper (put_digits (n % 10000) put) (omega arith)), within)
+-- the library's text of a number put so that it ends at a place
+pub digits_put :
+    {o out : List ℕ} {end : ℕ} (at n start : ℕ) →
+    n < 2 ^ 64 →
+    end ≡ at + length (Fmt.decimal n) →
+    start + length (Fmt.decimal n) ≡ end →
+    drop start out ≡ Fmt.decimal n ++ drop end o →
+    take start out ≡ take start o →
+    Put o at (decimal n) out end
+digits_put {o} {out} {end} at n start b e s written before =
+    let same : start ≡ at = omega arith in
+    rw (← digits_are n b)
+    (record {
+      ends = e;
+      fills =
+          sym (take-append-drop at out)
+          ∙ rw same at (ap (λ (x : List ℕ). x ++ drop start out) before)
+          ∙ ap (λ (x : List ℕ). take at o ++ x) (rw same at written ∙ ap (λ (m : ℕ). Fmt.decimal n ++ drop m o) e);
+    })

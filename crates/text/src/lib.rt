@@ -1,9 +1,11 @@
-// Lines of text, written straight into the output, a number's digits four at a time: no number is made in a buffer of its
-// own and copied to its place.
+// Lines of text, written straight into the output: no number is made in a buffer of its own and copied to its place.
 #![tactic(auto)]
 
-ghost use Rattle.std.specs.Prelude.{◌≡◌, [], ◌+◌, ◌≤◌, ◌<◌, leb, length};
-ghost use Rattle.text.specs.Text.{spelled, decimal, line, slot_word, slot_line, number_size, line_size, slot_line_size, filled, Put, PutIn};
+ghost use Rattle.std.specs.Prelude.{◌≡◌, ◌+◌, ◌≤◌, leb, length};
+ghost use Rattle.text.specs.Page.{Adds};
+ghost use Rattle.text.specs.Text.{decimal, line, slot_line, number_size, line_size, slot_line_size, PutIn};
+
+use itoa::write_digits;
 
 // The longest number, of 64 bits; the longest line, of two numbers; the longest line of a slot.
 pub const NUMBER: usize = 20;
@@ -12,126 +14,95 @@ pub const LINE: usize = 2 * (NUMBER + 1);
 
 pub const SLOT_LINE: usize = 5 + LINE;
 
-// The four digits of a number below ten thousand, at `at` of the output.
-fn put_four(out: &mut [u8], at: usize, n: u32)
-    requires { (n < 10000) × (at + 4 ≤ length out.old) }
-    ensures { out.new ≡ filled out.old at (spelled 4 n []) }
-{
-    let high = n / 100;
-    let low = n % 100;
-    out[at + 3] = (48 + low % 10) as u8;
-    out[at + 2] = (48 + low / 10) as u8;
-    out[at + 1] = (48 + high % 10) as u8;
-    out[at] = (48 + high / 10) as u8;
+// The output, and where its text ends.
+#[derive(Drop)]
+struct Page<'a> {
+    bytes: &'a mut [u8],
+    end: usize,
 }
 
-// A number below ten thousand in decimal, at `at` of the output. Answers where its digits end.
-fn put_short(out: &mut [u8], at: usize, n: u32) -> usize
-    requires { (n < 10000) × (at + 4 ≤ length out.old) }
-    ensures { Put out.old at (decimal n) out.new result × (result ≤ at + 4) }
-{
-    if n < 10 {
-        out[at] = (48 + n) as u8;
-        return at + 1;
+impl Page<'_> {
+    // Whether `size` bytes have room after the text.
+    fn has_room(&self, size: usize) -> bool
+        ensures { result ≡ leb (self.now.end + size) (length self.now.bytes.now) }
+    {
+        self.end <= self.bytes.len() && size <= self.bytes.len() - self.end
     }
-    if n < 100 {
-        out[at] = (48 + n / 10) as u8;
-        out[at + 1] = (48 + n % 10) as u8;
-        return at + 2;
-    }
-    if n < 1000 {
-        out[at] = (48 + n / 100) as u8;
-        out[at + 1] = (48 + n / 10 % 10) as u8;
-        out[at + 2] = (48 + n % 10) as u8;
-        return at + 3;
-    }
-    put_four(out, at, n);
-    at + 4
-}
 
-// `n` in decimal, its last four digits after all the others. Answers where its digits end.
-fn put_by_four(out: &mut [u8], at: usize, n: u64) -> usize
-    requires { at + number_size ≤ length out.old }
-    ensures { Put out.old at (decimal n) out.new result × (result ≤ at + number_size) }
-{
-    if n < 10000 {
-        return put_short(out, at, n as u32);
+    // Adds some text.
+    fn put(&mut self, text: &[u8])
+        requires { self.old.end + length text.now ≤ length self.old.bytes.now }
+        ensures { Adds self.old text.now self.new }
+    {
+        let end = self.end + text.len();
+        self.bytes[self.end..end].copy_from_slice(text);
+        self.end = end;
     }
-    let end = put_by_four(out, at, n / 10000);
-    put_four(out, end, (n % 10000) as u32);
-    end + 4
-}
 
-// The same, with no call of itself for up to eight digits.
-fn put_decimal(out: &mut [u8], at: usize, n: u64) -> usize
-    requires { at + number_size ≤ length out.old }
-    ensures { Put out.old at (decimal n) out.new result × (result ≤ at + number_size) }
-{
-    if n < 10000 {
-        return put_short(out, at, n as u32);
+    // Adds `n` in decimal: its logarithm says where its digits end, and the library puts them before that place.
+    // Not by `write!`: that it wrote all did not close, since its contract does not say that it ends without an error.
+    #[tactic(auto, using(crate::proofs::Widths::log_length))]
+    fn put_decimal(&mut self, n: u64)
+        requires { self.old.end + number_size ≤ length self.old.bytes.now }
+        ensures adds { Adds self.old (decimal n) self.new }
+        ensures short { self.new.end ≤ self.old.end + number_size }
+    {
+        let end = self.end + n.max(1).ilog10() as usize + 1;
+        write_digits(n, self.bytes, end);
+        self.end = end;
     }
-    if 100000000 <= n {
-        return put_by_four(out, at, n);
-    }
-    let end = put_short(out, at, (n / 10000) as u32);
-    put_four(out, end, (n % 10000) as u32);
-    end + 4
-}
 
-// Whether `size` bytes have room from `at` on.
-fn has_room(out: &[u8], at: usize, size: usize) -> bool
-    ensures { result ≡ leb (at + size) (length out.now) }
-{
-    if out.len() < at {
-        return false;
+    // Adds two numbers with a space between them and a newline.
+    fn put_numbers(&mut self, first: u64, second: u64)
+        requires { self.old.end + line_size ≤ length self.old.bytes.now }
+        ensures { Adds self.old (line first second) self.new }
+    {
+        self.put_decimal(first);
+        self.put(b" ");
+        self.put_decimal(second);
+        self.put(b"\n");
     }
-    if out.len() - at < size {
-        return false;
+
+    // Adds the word "slot", a space and two numbers.
+    #[tactic(auto, using(crate::proofs::Filling::adds_then, crate::proofs::Widths::line_most), unfolding(crate::specs::Text::slot_line))]
+    fn put_slot(&mut self, slot: u64, count: u64)
+        requires { self.old.end + slot_line_size ≤ length self.old.bytes.now }
+        ensures { Adds self.old (slot_line slot count) self.new }
+    {
+        self.put(b"slot ");
+        self.put_numbers(slot, count);
     }
-    true
-}
-
-// Two numbers with a space between them and a newline, at `at` of the output. Answers where they end.
-fn put_numbers(out: &mut [u8], at: usize, first: u64, second: u64) -> usize
-    requires { at + line_size ≤ length out.old }
-    ensures { Put out.old at (line first second) out.new result }
-{
-    let space = put_decimal(out, at, first);
-    out[space] = b' ';
-    let end = put_decimal(out, space + 1, second);
-    out[end] = b'\n';
-    end + 1
-}
-
-// The word "slot" and a space, at `at` of the output.
-fn put_slot_word(out: &mut [u8], at: usize)
-    requires { at + length slot_word ≤ length out.old }
-    ensures { out.new ≡ filled out.old at slot_word }
-{
-    out[at] = b's';
-    out[at + 1] = b'l';
-    out[at + 2] = b'o';
-    out[at + 3] = b't';
-    out[at + 4] = b' ';
 }
 
 // A record's line, at `at` of the output, where the longest one has room. Answers where it ends.
 pub fn put_line(out: &mut [u8], at: usize, place: u64, number: u64) -> usize
     ensures { PutIn line_size out.old at (line place number) out.new result }
 {
-    if has_room(&*out, at, LINE) {
-        return put_numbers(out, at, place, number);
+    let mut page = Page {
+        bytes: out,
+        end: at,
+    };
+    if page.has_room(LINE) {
+        page.put_numbers(place, number);
+        page.end
+    } else {
+        at
     }
-    at
 }
 
 // A slot's line, at `at` of the output, where the longest one has room. Answers where it ends.
+// Not one function with `put_line`: its size and its method would be parameters, the method with a contract of its own.
 pub fn put_slot_line(out: &mut [u8], at: usize, slot: u64, count: u64) -> usize
     ensures { PutIn slot_line_size out.old at (slot_line slot count) out.new result }
 {
-    if has_room(&*out, at, SLOT_LINE) {
-        put_slot_word(out, at);
-        return put_numbers(out, at + 5, slot, count);
+    let mut page = Page {
+        bytes: out,
+        end: at,
+    };
+    if page.has_room(SLOT_LINE) {
+        page.put_slot(slot, count);
+        page.end
+    } else {
+        at
     }
-    at
 }

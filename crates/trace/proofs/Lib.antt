@@ -1,5 +1,4 @@
 pub mod Playing
-pub mod Stepping
 pub mod Turns
 pub mod Slots
 pub mod Same

@@ -5,15 +5,16 @@ use mathlib.Core.Path.{◌≡◌, refl, sym, ap, ◌∙◌}
 use native.Mathlib.Omega.{arith}
 use lib.ListN.{length, drop, length-append, length-drop, get_or, get_or-append}
 use lib.Seq.{get_or-drop, drop-drop, drop_at, drop-append-le}
+use Rattle.std.specs.Prelude.{Option}
 use Rattle.numbers.specs.Answers.{number_of}
 use Rattle.header.specs.Header.{unpacked}
 use Rattle.block.specs.Block.{fresh_block}
 use Rattle.world.specs.World.{World, Machine, fresh}
-use Rattle.decode.specs.declared.Decoded.{Decoded}
-use Rattle.decode.specs.Decode.{decoded}
+use Rattle.decode.specs.Decode.{decoded, record_size, first_asked}
 use Rattle.text.specs.Text.{line_size}
 use Rattle.text.proofs.Widths.{line_most}
-use Rattle.trace.specs.Play.{record_size, first_asked, asked, wholes, cut, told, next, text_by, world_by, slots_text, end_text, played_by, printed}
+use Rattle.trace.specs.Play.{asked, wholes, cut, told, next, text_by, world_by, slots_text, end_text, played_by, printed}
+use Rattle.calls.specs.declared.Call.{Call}
 
 -- what the record at a place of some bytes asks for
 pub first_at :
@@ -64,14 +65,14 @@ asked_append (suc k) x y h =
 
 module _ (m : Machine) where
   -- the world after both
-  pub world_then : (w : World) (x y : List Decoded) → world_by m w (x ++ y) ≡ world_by m (world_by m w x) y
+  pub world_then : (w : World) (x y : List (Option Call)) → world_by m w (x ++ y) ≡ world_by m (world_by m w x) y
   unfolding world_by
   world_then w [] y = refl
   world_then w (d ∷ x) y = world_then (next m w d) x y
 
   -- the lines of both
   pub text_then :
-      (w : World) (n : ℕ) (x y : List Decoded) →
+      (w : World) (n : ℕ) (x y : List (Option Call)) →
       text_by m w n (x ++ y) ≡ text_by m w n x ++ text_by m (world_by m w x) (n + length x) y
   unfolding world_by text_by
   text_then w n [] y = let z : n + 0 ≡ n = omega arith in rw z refl
@@ -80,7 +81,7 @@ module _ (m : Machine) where
       rw (s, text_then (next m w d) (n + 1) x y) (simp append_assoc)
 
   -- the lines of some records are no longer than the longest each
-  pub text_most : (w : World) (n : ℕ) (x : List Decoded) → length (text_by m w n x) ≤ length x * line_size
+  pub text_most : (w : World) (n : ℕ) (x : List (Option Call)) → length (text_by m w n x) ≤ length x * line_size
   unfolding text_by
   text_most w n [] = omega arith
   text_most w n (d ∷ x) =
@@ -107,7 +108,7 @@ module _ (m : Machine) where
       ∙ ap (λ (i : ℕ). drop i bytes) (let z : (k + wholes rest) * record_size ≡ k * record_size + wholes rest * record_size = omega arith in z)
       ∙ sym (drop-drop (wholes rest * record_size) (k * record_size) bytes) in
       let p : n + (k + wholes rest) ≡ n + k + wholes rest = omega arith in
-      ap (λ (x : List Decoded). text_by m w n x ++ end_text (world_by m w x).block.headers (n + wholes bytes) (cut bytes)) a
+      ap (λ (x : List (Option Call)). text_by m w n x ++ end_text (world_by m w x).block.headers (n + wholes bytes) (cut bytes)) a
       ∙ rw (c, j, p, text_then w n (asked k bytes) (asked (wholes rest) rest), world_then w (asked k bytes) (asked (wholes rest) rest), asked_length k bytes) (simp append_assoc)
 
   -- how the input is cut into turns does not change what is printed

@@ -3,10 +3,12 @@
 use Prim.Native.Nat.{ℕ, ◌+◌}
 use mathlib.Core.List.{List, [], ◌∷◌, ◌++◌}
 use mathlib.Core.Path.{◌≡◌, refl, ap, ◌∙◌}
+use Rattle.std.specs.Prelude.{Option, Some, None}
 use Rattle.numbers.specs.Answers.{number_of}
 use Rattle.numbers.specs.declared.answers.Answer.{Answer}
 use Rattle.calls.specs.declared.Call.{Call}
-use Rattle.calls.specs.declared.Outcome.{Outcome}
+use Rattle.stages.specs.declared.Outcome.{Outcome}
+use Rattle.calls.specs.declared.Records.{Records}
 use Rattle.calls.specs.Calls.{checked_call}
 use Rattle.world.specs.World.{World, rules, fresh, outcome_by, after_by}
 use Rattle.history.specs.Ledger.{Line, entered}
@@ -15,7 +17,6 @@ use Rattle.history.proofs.Histories.{Good}
 use Rattle.history.proofs.Histories.{next as good_next}
 use Rattle.history.proofs.Fresh.{fresh_good}
 use Rattle.history.proofs.Limits.{all_within}
-use Rattle.decode.specs.declared.Decoded.{Decoded}
 use Rattle.text.specs.Text.{line}
 use Rattle.trace.specs.Play.{plainly, told, next, text_by, world_by, played_by, printed}
 
@@ -33,25 +34,25 @@ same_outcome : (w : World) → Reached w → (call : Call) → outcome_by rules 
 unfolding checked_call
 same_outcome w r call = rw (all_within w r.won r.lines r.good call.client)
 
-same_told : (w : World) → Reached w → (d : Decoded) → told rules w d ≡ told plainly w d
-same_told w r (Decoded.Known call) = ap (λ (o : Outcome). o.answer) (same_outcome w r call)
-same_told w r Decoded.Unknown = refl
+same_told : (w : World) → Reached w → (d : Option Call) → told rules w d ≡ told plainly w d
+same_told w r (Some call) = ap (λ (o : Outcome Records). o.answer) (same_outcome w r call)
+same_told w r None = refl
 
-same_next : (w : World) → Reached w → (d : Decoded) → next rules w d ≡ next plainly w d
+same_next : (w : World) → Reached w → (d : Option Call) → next rules w d ≡ next plainly w d
 unfolding after_by
-same_next w r (Decoded.Known call) = rw (same_outcome w r call)
-same_next w r Decoded.Unknown = refl
+same_next w r (Some call) = rw (same_outcome w r call)
+same_next w r None = refl
 
 -- and the world after it is reached too
-next_reached : (w : World) → Reached w → (d : Decoded) → Reached (next rules w d)
-next_reached w r (Decoded.Known call) =
+next_reached : (w : World) → Reached w → (d : Option Call) → Reached (next rules w d)
+next_reached w r (Some call) =
     let n = good_next w r.won r.lines r.good call in
     record { won = n.ghost; lines = entered w call r.lines; good = n.good }
-next_reached w r Decoded.Unknown = r
+next_reached w r None = r
 
 -- so are the lines and the world of some records
 pub same_text :
-    (w : World) → Reached w → (n : ℕ) (records : List Decoded) → text_by rules w n records ≡ text_by plainly w n records
+    (w : World) → Reached w → (n : ℕ) (records : List (Option Call)) → text_by rules w n records ≡ text_by plainly w n records
 unfolding text_by
 same_text w r n [] = refl
 same_text w r n (d ∷ rest) =
@@ -60,7 +61,7 @@ same_text w r n (d ∷ rest) =
     ∙ ap (λ (v : World). first ++ text_by plainly v (n + 1) rest) (same_next w r d)
     ∙ ap (λ (a : Answer). line n (number_of a) ++ text_by plainly (next plainly w d) (n + 1) rest) (same_told w r d)
 
-pub same_world : (w : World) → Reached w → (records : List Decoded) → world_by rules w records ≡ world_by plainly w records
+pub same_world : (w : World) → Reached w → (records : List (Option Call)) → world_by rules w records ≡ world_by plainly w records
 unfolding world_by
 same_world w r [] = refl
 same_world w r (d ∷ rest) =

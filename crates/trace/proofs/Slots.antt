@@ -13,7 +13,7 @@ use Rattle.text.specs.Text.{line, slot_line, line_size, slot_line_size, Put}
 use Rattle.text.proofs.Filling.{filled_none, put_none, put_then, put_length}
 use Rattle.text.proofs.Widths.{line_most, slot_line_most}
 use Rattle.trace.specs.Play.{cut_text, slot_text, slots_text, Ending}
-use Rattle.trace.proofs.Stepping.{by_test}
+use Rattle.history.proofs.Updates.{by_test}
 
 -- the lines of some slots, and of those after them
 slots_then : (s : ℕ) (x y : List ℕ) → slots_text s (x ++ y) ≡ slots_text s x ++ slots_text (s + length x) y

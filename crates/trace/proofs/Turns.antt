@@ -6,16 +6,18 @@ use native.Mathlib.Omega.{arith}
 use borrow.Author.Tests.{ltb-true, ltb-false}
 use lib.Dec.{ltb}
 use lib.ListN.{length, drop}
+use Rattle.std.specs.Prelude.{Option}
 use Rattle.numbers.specs.Answers.{number_of}
 use Rattle.numbers.specs.declared.answers.Answer.{Answer}
+use Rattle.calls.specs.declared.Call.{Call}
 use Rattle.world.specs.World.{World}
-use Rattle.decode.specs.declared.Decoded.{Decoded}
 use Rattle.text.specs.Text.{line, line_size, filled, Put, PutIn}
 use Rattle.text.proofs.Filling.{put_none, put_all, put_then, put_length}
 use Rattle.text.proofs.Widths.{line_most}
-use Rattle.trace.specs.Play.{record_size, first_asked, asked, plainly, told, next, text_by, world_by, last_place, turn_count, Turn}
+use Rattle.decode.specs.Decode.{record_size, first_asked}
+use Rattle.trace.specs.Play.{asked, plainly, told, next, text_by, world_by, last_place, turn_count, Turn}
 use Rattle.trace.proofs.Playing.{asked_length, asked_more, world_then, text_then, text_most}
-use Rattle.trace.proofs.Stepping.{by_test}
+use Rattle.history.proofs.Updates.{by_test}
 
 -- as many records are read, have room and have a place
 pub record Counted (n size room count : ℕ) : Type 0 where
@@ -63,7 +65,7 @@ module _ {start : World} {place : ℕ} {input before : List ℕ} where
       {w : World} {out : List ℕ} {k end : ℕ} →
       Going start place input before w out k end →
       k * line_size + line_size ≤ length before →
-      (d : Decoded) →
+      (d : Option Call) →
       d ≡ first_asked (drop (k * record_size) input) →
       {after : List ℕ} {to : ℕ} (answer : Answer) →
       answer ≡ told plainly w d →
@@ -86,7 +88,7 @@ module _ {start : World} {place : ℕ} {input before : List ℕ} where
       ∙ ap (λ (i : ℕ). line (place + i) (number_of answer) ++ []) (sym (asked_length k input))
       ∙ ap (λ (i : Answer). line (place + length x) (number_of i) ++ []) a
       ∙ ap (λ (u : World). line (place + length x) (number_of (told plainly u d)) ++ []) g.world
-      ∙ ap (λ (i : Decoded). line (place + length x) (number_of (told plainly (world_by plainly start x) i)) ++ []) e in
+      ∙ ap (λ (i : Option Call). line (place + length x) (number_of (told plainly (world_by plainly start x) i)) ++ []) e in
       let texts : text_by plainly start place x ++ line (place + k) (number_of answer) ≡ text_by plainly start place (asked (k + 1) input) =
       ap (λ (t : List ℕ). text_by plainly start place x ++ t) last
       ∙ sym (text_then plainly start place x (f ∷ []))

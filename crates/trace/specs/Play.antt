@@ -1,29 +1,19 @@
 -- Playing a file (Part 5): records of a fixed size, a line for each, and the slots in use at the end.
-use Rattle.std.specs.Prelude.{ℕ, zero, suc, ◌+◌, ◌-◌, ◌*◌, ◌/◌, ◌≤◌, cond, List, [], ◌∷◌, ◌++◌, ◌≡◌, eqb, ltb, length, drop, get_or}
+use Rattle.std.specs.Prelude.{ℕ, zero, suc, ◌+◌, ◌-◌, ◌*◌, ◌/◌, ◌≤◌, cond, List, [], ◌∷◌, ◌++◌, ◌≡◌, eqb, ltb, length, drop, get_or, Option, Some, None}
 use Rattle.numbers.specs.Answers.{number_of}
 use Rattle.numbers.specs.declared.answers.Answer.{Answer}
 use Rattle.header.specs.Header.{count_in}
 use Rattle.block.specs.declared.Block.{Block}
 use Rattle.calls.specs.declared.Records.{Records}
-use Rattle.calls.specs.declared.Outcome.{Outcome}
-use Rattle.calls.specs.Checks.{unchanged}
 use Rattle.calls.specs.Calls.{plain_call}
 use Rattle.world.specs.World.{World, Machine, calling, rules, fresh, answer_by, after_by}
-use Rattle.decode.specs.declared.Decoded.{Decoded}
-use Rattle.decode.specs.Decode.{decoded}
+use Rattle.decode.specs.Decode.{record_size, first_asked}
 use Rattle.text.specs.Text.{line, slot_line, line_size, slot_line_size, filled, fitting}
 use Rattle.trace.specs.declared.Played.{Played}
-
--- R5.1: how many bytes a record is
-abbrev pub record_size : ℕ
-record_size = 4
-
--- R5.1: what the record that some bytes begin with asks for
-abbrev pub first_asked : List ℕ → Decoded
-first_asked bytes = decoded (get_or bytes 0 0) (get_or bytes 1 0) (get_or bytes 2 0) (get_or bytes 3 0)
+use Rattle.calls.specs.declared.Call.{Call}
 
 -- what the first k records of some bytes ask for
-unfoldable pub asked : ℕ → List ℕ → List Decoded
+unfoldable pub asked : ℕ → List ℕ → List (Option Call)
 asked zero bytes = []
 asked (suc k) bytes = first_asked bytes ∷ asked k (drop record_size bytes)
 
@@ -40,21 +30,21 @@ plainly = calling plain_call
 
 module _ (m : Machine) where
   -- R5.2: what a record is answered, and the world after it
-  abbrev pub told : World → Decoded → Answer
-  told w (Decoded.Known call) = answer_by m w call
-  told w Decoded.Unknown = Answer.NoSuchCall
+  abbrev pub told : World → Option Call → Answer
+  told w (Some call) = answer_by m w call
+  told w None = Answer.NoSuchCall
 
-  abbrev pub next : World → Decoded → World
-  next w (Decoded.Known call) = after_by m w call
-  next w Decoded.Unknown = w
+  abbrev pub next : World → Option Call → World
+  next w (Some call) = after_by m w call
+  next w None = w
 
   -- R5.4: the lines of some records, from a world and the place of the first
-  unfoldable pub text_by : World → ℕ → List Decoded → List ℕ
+  unfoldable pub text_by : World → ℕ → List (Option Call) → List ℕ
   text_by w n [] = []
   text_by w n (d ∷ rest) = line n (number_of (told w d)) ++ text_by (next w d) (n + 1) rest
 
   -- the world after some records
-  unfoldable pub world_by : World → List Decoded → World
+  unfoldable pub world_by : World → List (Option Call) → World
   world_by w [] = w
   world_by w (d ∷ rest) = world_by (next w d) rest
 
@@ -90,16 +80,6 @@ printed input = played_by rules fresh 1 input
 abbrev pub world_of : Block → List (List ℕ) → List Records → World
 world_of block eras records = record { block = block; eras = eras; records = records }
 
--- the client that a record names
-abbrev pub named : Decoded → ℕ
-named (Decoded.Known call) = call.client
-named Decoded.Unknown = 0
-
--- what a record is answered, hands back and writes, given its client's records
-abbrev pub outcome_of : Decoded → Block → List (List ℕ) → Records → Outcome
-outcome_of (Decoded.Known call) b eras given = plain_call call b eras given
-outcome_of Decoded.Unknown b eras given = unchanged Answer.NoSuchCall given
-
 -- the last place that fits 64 bits
 abbrev pub last_place : ℕ
 last_place = 18446744073709551615
@@ -113,11 +93,11 @@ turn_count n size room =
     (cond (ltb (size / record_size) (room / line_size)) (size / record_size) (room / line_size))
 
 -- what the records that a turn plays ask for
-abbrev pub turn_asked : ℕ → List ℕ → ℕ → List Decoded
+abbrev pub turn_asked : ℕ → List ℕ → ℕ → List (Option Call)
 turn_asked n input room = asked (turn_count n (length input) room) input
 
 -- what a turn that has played k records hands back
-abbrev pub handed_back : World → ℕ → ℕ → List Decoded → Played
+abbrev pub handed_back : World → ℕ → ℕ → List (Option Call) → Played
 handed_back w n k records =
     record {
       block = (world_by plainly w records).block;

@@ -4,6 +4,7 @@ ghost use Rattle.text.specs.Text.{line_size, slot_line_size, Put};
 ghost use Rattle.trace.specs.Play.{cut_text, slot_text, slots_text};
 
 use header::unpack;
+use numbers::answers::Answer;
 use text::{put_line, put_slot_line};
 
 // The line of a record that is cut short, where bytes of one are left. Answers where it ends.
@@ -11,10 +12,10 @@ pub(crate) fn put_cut<'a>(out: &'a mut [u8], rest: &'a [u8], place: u64) -> usiz
     requires { line_size ≤ length out.old }
     ensures { Put out.old 0 (cut_text place rest.now) out.new result }
 {
-    if rest.len() == 0 {
+    if rest.is_empty() {
         return 0;
     }
-    put_line(out, 0, place, 13)
+    put_line(out, 0, place, Answer::CutRecord.number())
 }
 
 // The line of a slot, where its count is above 0. Answers where it ends.
@@ -36,10 +37,8 @@ pub(crate) fn put_slots<'a>(out: &'a mut [u8], at: usize, headers: &'a [u64]) ->
     ensures { Put out.old at (slots_text 0 headers.now) out.new result }
 {
     let mut end = at;
-    let mut slot: usize = 0;
-    while slot < headers.len() {
-        end = put_slot(out, end, slot, headers[slot]);
-        slot += 1;
+    for (slot, header) in headers.iter().enumerate() {
+        end = put_slot(out, end, slot, *header);
     }
     end
 }

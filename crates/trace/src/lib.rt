@@ -9,15 +9,13 @@ ghost use Rattle.std.specs.Prelude.{◌≡◌, length};
 ghost use Rattle.trace.specs.Play.{turn_count, Turn, Ending, world_of};
 
 use crate::ending::{put_cut, put_slots};
-use crate::record::{asked_at, log_written, played, put_answer, standings_after, whose};
+use crate::record::{asked_at, played, put_answer};
 use block::Block;
 use block::matrix::Row;
 use calls::Records;
+use decode::RECORD;
 use numbers::CLIENTS;
 use text::{LINE, SLOT_LINE};
-
-// How many bytes a record is.
-pub const RECORD: usize = 4;
 
 // What a turn leaves: the block and the records, how many bytes it read, where its text ends, and the next record's place.
 #[derive(Clone, Copy)]
@@ -38,11 +36,7 @@ fn turn_count<'a>(place: u64, input: &'a [u8], out: &'a [u8]) -> usize
         return 0;
     }
     let whole = input.len() / RECORD;
-    let room = out.len() / LINE;
-    if whole < room {
-        return whole;
-    }
-    room
+    whole.min(out.len() / LINE)
 }
 
 // Plays the whole records of the input, from the block, the matrix and the records given, as many as the output has room
@@ -60,42 +54,20 @@ pub fn play_records<'a>(
     ensures { Turn (world_of block eras.old records) place input.now out.old result eras.new out.new }
 {
     let count = turn_count(place, input, &*out);
-    let mut headers = block.headers;
-    let mut cells = block.cells;
-    let mut logs = block.logs;
-    let mut standings = block.standings;
+    let mut words = block;
     let mut all = records;
-    let mut k: usize = 0;
     let mut end: usize = 0;
-    while k < count {
-        let d = asked_at(input, k);
-        let who = whose(d);
-        let my = all[who];
-        let o = played(d, &mut headers, &mut cells, logs, standings, &mut *eras, my);
-        let next = o.records;
-        all[who] = next;
-        let write = log_written(o);
-        let by = write.at;
-        if by < CLIENTS {
-            let word = write.word;
-            logs[by] = word;
-        }
-        let standings_next = standings_after(o, standings);
-        standings = standings_next;
-        end = put_answer(out, end, place, k, o);
-        k += 1;
+    for k in 0..count {
+        let asked = asked_at(input, k);
+        let answer = played(asked, &mut words, &mut *eras, &mut all);
+        end = put_answer(out, end, place, k, answer);
     }
     Played {
-        block: Block {
-            headers,
-            cells,
-            logs,
-            standings,
-        },
+        block: words,
         records: all,
-        read: k * RECORD,
+        read: count * RECORD,
         end,
-        place: place + k as u64,
+        place: place + count as u64,
     }
 }
 

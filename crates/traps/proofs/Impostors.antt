@@ -9,7 +9,8 @@ use Rattle.block.specs.Block.{fresh_block}
 use Rattle.block.specs.Matrix.{fresh_eras}
 use Rattle.stages.specs.Stages.{load_stage, note_stage, log_stage, swap_stage, written, cell_stage, era_stage, step_of}
 use Rattle.limits.specs.Limits.{header_within, entry_within, block_within, row_within, stage_within, rescue_within, within}
-use Rattle.calls.specs.declared.Outcome.{Outcome}
+use Rattle.stages.specs.declared.Outcome.{Outcome}
+use Rattle.calls.specs.declared.Records.{Records}
 use Rattle.calls.specs.Calls.{asks, effect, plain_call, checked_call}
 use Rattle.world.specs.World.{CallFunction, calling, fresh, after_by, run_by}
 use Rattle.history.specs.Ledger.{performed_by, entered_by, ledger_by, naming}
@@ -25,7 +26,7 @@ pub refusing_all_is_out : Meets refuses_all → ⊥
 unfolding packed unpacked spare_in fresh_block fresh_eras header_within block_within row_within stage_within rescue_within
     within asks effect plain_call checked_call fresh run_by
 refusing_all_is_out meets =
-    let e : ◌≡◌ {A = ℕ} 4 0 = ap (λ (o : Outcome). number_of o.answer) (at refuses_all 0 meets) in
+    let e : ◌≡◌ {A = ℕ} 4 0 = ap (λ (o : Outcome Records). number_of o.answer) (at refuses_all 0 meets) in
     omega arith
 
 -- R8.2 b, by demand 2: the sixth step of situation A gets 100, and here 0
@@ -34,7 +35,7 @@ unfolding packed unpacked spare_in fresh_block fresh_eras load_stage note_stage 
     step_of header_within entry_within block_within row_within stage_within rescue_within within asks effect plain_call
     checked_call fresh after_by run_by
 accepting_all_is_out meets =
-    let e : ◌≡◌ {A = ℕ} 0 100 = ap (λ (o : Outcome). number_of o.answer) (at accepts_all 7 meets) in
+    let e : ◌≡◌ {A = ℕ} 0 100 = ap (λ (o : Outcome Records). number_of o.answer) (at accepts_all 7 meets) in
     omega arith
 
 -- R8.2 c, by demand 2: the swap of situation A writes a header, and here nothing
@@ -43,14 +44,14 @@ unfolding packed unpacked spare_in fresh_block fresh_eras load_stage note_stage 
     entry_within block_within row_within stage_within rescue_within within asks effect plain_call checked_call fresh after_by
     run_by
 changing_no_word_is_out meets =
-    false≢true (ap (λ (o : Outcome). writes_header o.store) (at changes_no_word 5 meets))
+    false≢true (ap (λ (o : Outcome Records). writes_header o.store) (at changes_no_word 5 meets))
 
 -- R8.2 d, by demand 2: the load of situation A writes nothing, and here a header
 pub all_at_load_is_out : Meets all_at_load → ⊥
 unfolding packed unpacked spare_in fresh_block fresh_eras load_stage step_of header_within block_within row_within stage_within
     rescue_within within asks effect plain_call checked_call fresh after_by run_by
 all_at_load_is_out meets =
-    false≢true (sym (ap (λ (o : Outcome). writes_header o.store) (at all_at_load 2 meets)))
+    false≢true (sym (ap (λ (o : Outcome Records). writes_header o.store) (at all_at_load 2 meets)))
 
 -- R8.2 e, by demand 3 (a): after the swap of situation A, its sixth call, the count is 2 and the ledger has one line
 pub inventing_a_count_is_out : Keeps (calling invents_count) (take 6 worked) → ⊥

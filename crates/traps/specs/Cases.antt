@@ -1,14 +1,12 @@
 -- The cases of an act, a stage, a rescue step and a store that a trap or an impostor treats otherwise than the rules;
 -- all the others of each are one case.
-use Rattle.std.specs.Prelude.{ℕ}
+use Rattle.std.specs.Prelude.{ℕ, Option, Some, None}
 use Rattle.numbers.specs.declared.Client.{Client}
 use Rattle.numbers.specs.declared.Slot.{Slot}
 use Rattle.block.specs.declared.Entry.{Entry}
 use Rattle.block.specs.declared.Operation.{Operation}
 use Rattle.block.specs.declared.Standing.{Standing}
 use Rattle.block.specs.declared.store.Store.{Store}
-use Rattle.stages.specs.declared.Kept.{Kept}
-use Rattle.stages.specs.declared.Open.{Open}
 use Rattle.stages.specs.declared.Stage.{Stage}
 use Rattle.stages.specs.Stages.{open_in, kept_in}
 use Rattle.rescue.specs.declared.RescuerStep.{RescuerStep}
@@ -30,10 +28,10 @@ module _ {A : Type 0} where
   of_act step rescue look other (Act.LookUp k) = look k
 
   -- an open operation that keeps a header, or none
-  abbrev pub of_kept : (Operation → ℕ → A) → A → Open → Kept → A
-  of_kept keeps other Open.Nothing kept = other
-  of_kept keeps other (Open.Doing op) Kept.Nothing = other
-  of_kept keeps other (Open.Doing op) (Kept.Word h) = keeps op h
+  abbrev pub of_kept : (Operation → ℕ → A) → A → Option Operation → Option ℕ → A
+  of_kept keeps other None kept = other
+  of_kept keeps other (Some op) None = other
+  of_kept keeps other (Some op) (Some h) = keeps op h
 
   -- a stage: one whose operation keeps a header, or another
   abbrev pub of_stage : (Operation → ℕ → A) → A → Stage → A

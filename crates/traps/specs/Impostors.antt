@@ -9,7 +9,7 @@ use Rattle.stages.specs.declared.Stage.{Stage}
 use Rattle.stages.specs.Stages.{went, swapped, place_of}
 use Rattle.calls.specs.declared.Call.{Call}
 use Rattle.calls.specs.declared.Records.{Records}
-use Rattle.calls.specs.declared.Outcome.{Outcome}
+use Rattle.stages.specs.declared.Outcome.{Outcome}
 use Rattle.calls.specs.Checks.{unchanged, refused}
 use Rattle.calls.specs.Calls.{client, of_client, checked_call}
 use Rattle.calls.specs.Named.{join}
@@ -33,22 +33,22 @@ abbrev pub accepts_all : CallFunction
 accepts_all call b eras given = unchanged Answer.Accepted given
 
 -- an outcome with another store
-abbrev pub storing : Store → Outcome → Outcome
-storing store o = record { answer = o.answer; records = o.records; store = store }
+abbrev pub storing : Store → Outcome Records → Outcome Records
+storing store o = record { answer = o.answer; next = o.next; store = store }
 
 -- R8.2 c: it answers and hands back what the rules say, and changes no word
 abbrev pub changes_no_word : CallFunction
 changes_no_word call b eras given = storing Store.Nothing (checked_call call b eras given)
 
 -- the load that swaps: the header of the won swap is written at once, and kept, so that the swap stage finds it
-abbrev pub swaps_at_load : ℕ → List (List ℕ) → Records → Outcome → Outcome
+abbrev pub swaps_at_load : ℕ → List (List ℕ) → Records → Outcome Records → Outcome Records
 swaps_at_load c eras given o =
     of_stage
     (λ op h.
     let new = swapped (client c) op h (own_era eras c) in
     of_client (went o.answer (Stage.Note op new) (Store.Header op.slot new)) given)
     o
-    o.records.client.stage
+    o.next.client.stage
 
 -- R8.2 d: it performs the operation at its load and idles through the other stages. That it writes header, matrix, log,
 -- cell and era at once no outcome can say, for an outcome has one store: the type forbids the whole of it. This one
@@ -86,7 +86,7 @@ abbrev pub worked : List Call
 worked = calls_of a_worked_example.items
 
 -- what a call function makes of the call of situation A that comes after its first n, in the world that those led to
-abbrev pub made_of : CallFunction → ℕ → Outcome
+abbrev pub made_of : CallFunction → ℕ → Outcome Records
 made_of f n = outcome_by (calling f) (run fresh (take n worked)) (get_or worked n (join 0))
 
 -- whether a store writes a header

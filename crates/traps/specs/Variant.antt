@@ -13,16 +13,15 @@ use Rattle.block.specs.Matrix.{own_era}
 use Rattle.block.specs.Store.{eras_after}
 use Rattle.stages.specs.declared.ClientRecord.{ClientRecord}
 use Rattle.stages.specs.declared.Stage.{Stage}
-use Rattle.stages.specs.declared.Stepped.{Stepped}
+use Rattle.stages.specs.declared.Outcome.{Outcome}
 use Rattle.stages.specs.Stages.{went, won, swap_by, step_of, place_of, idle}
 use Rattle.rescue.specs.declared.RescuerRecord.{RescuerRecord}
 use Rattle.rescue.specs.declared.RescuerStep.{RescuerStep}
 use Rattle.rescue.specs.Rescue.{onward, as_rescue}
-use Rattle.limits.specs.Every.{every}
+use Rattle.std.specs.List.{list_all}
 use Rattle.limits.specs.Limits.{block_within, stage_within, rescue_within, within}
 use Rattle.calls.specs.declared.Act.{Act}
 use Rattle.calls.specs.declared.Records.{Records}
-use Rattle.calls.specs.declared.Outcome.{Outcome}
 use Rattle.calls.specs.Checks.{same_standing, unchanged, after_checks}
 use Rattle.calls.specs.Calls.{client, of_client, of_rescuer, shown, checks, effect, stage_of}
 use Rattle.world.specs.World.{World, Machine, fresh, fresh_records, rules}
@@ -35,11 +34,11 @@ LimitFunction = ℕ → Block → List (List ℕ) → ClientRecord → RescuerRe
 
 -- R2.3 to R2.13: what an accepted call does for a client
 abbrev pub EffectFunction : Type 0
-EffectFunction = Act → ℕ → Block → List (List ℕ) → Records → Outcome
+EffectFunction = Act → ℕ → Block → List (List ℕ) → Records → Outcome Records
 
 -- R3.0: how a stage is performed for a client
 abbrev pub StepFunction : Type 0
-StepFunction = Client → Block → List (List ℕ) → Stage → Stepped
+StepFunction = Client → Block → List (List ℕ) → Stage → Outcome ClientRecord
 
 -- R7.1: own eras begin at 0, not at 1 (R1.5)
 unfoldable pub fresh_from_zero : World
@@ -49,7 +48,7 @@ fresh_from_zero = record { block = fresh_block; eras = replicate clients (replic
 unfoldable pub within_from_zero : LimitFunction
 within_from_zero c b eras client rescuer =
     block_within b
-    && (every (every (λ (e : ℕ). leb e era_limit)) eras
+    && (list_all (list_all (λ (e : ℕ). leb e era_limit)) eras
     && (stage_within client.stage && rescue_within c rescuer.step))
 
 -- R7.2: the step that comes next: for condition 1 condition 2, past its last client condition 1, and then the search
@@ -66,7 +65,7 @@ asked_next c step next =
 abbrev pub asks_second_first : EffectFunction
 asks_second_first act c b eras given =
     let o = effect act c b eras given in
-    let next = asked_next (client c) given.rescuer.step o.records.rescuer.step in
+    let next = asked_next (client c) given.rescuer.step o.next.rescuer.step in
     of_act o
     (of_rescuer (record { answer = o.answer; next = record { step = next }; store = o.store }) given)
     (λ k. o)

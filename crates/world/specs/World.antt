@@ -14,7 +14,7 @@ use Rattle.rescue.specs.declared.RescuerRecord.{RescuerRecord}
 use Rattle.limits.specs.Limits.{within}
 use Rattle.calls.specs.declared.Call.{Call}
 use Rattle.calls.specs.declared.Records.{Records}
-use Rattle.calls.specs.declared.Outcome.{Outcome}
+use Rattle.stages.specs.declared.Outcome.{Outcome}
 use Rattle.calls.specs.Calls.{nothing, checked_call}
 
 -- the shared words, and every client's private words
@@ -41,7 +41,7 @@ fresh = record { block = fresh_block; eras = fresh_eras; records = fresh_records
 
 -- what a call answers, hands back and writes
 abbrev pub CallFunction : Type 0
-CallFunction = Call → Block → List (List ℕ) → Records → Outcome
+CallFunction = Call → Block → List (List ℕ) → Records → Outcome Records
 
 -- what two machines may differ in
 pub record Machine : Type 0 where
@@ -65,7 +65,7 @@ rules = calling checked_call
 
 module _ (m : Machine) where
   -- R1.10: what a call answers, hands back and writes in a world
-  abbrev pub outcome_by : World → Call → Outcome
+  abbrev pub outcome_by : World → Call → Outcome Records
   outcome_by w call = m.call call w.block w.eras (records_at w.records call.client)
 
   abbrev pub answer_by : World → Call → Answer
@@ -78,7 +78,7 @@ module _ (m : Machine) where
       record {
         block = block_after o.store w.block;
         eras = m.matrix_after o.store w.eras;
-        records = records_after w.records call.client o.records;
+        records = records_after w.records call.client o.next;
       }
 
   -- R1.10: the world after a list of calls
@@ -87,7 +87,7 @@ module _ (m : Machine) where
   run_by w (call ∷ rest) = run_by (after_by w call) rest
 
 -- R1.10: the same of the machine of the rules
-abbrev pub outcome : World → Call → Outcome
+abbrev pub outcome : World → Call → Outcome Records
 outcome = outcome_by rules
 
 abbrev pub answer : World → Call → Answer

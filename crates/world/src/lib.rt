@@ -5,6 +5,8 @@
 ghost use Rattle.std.specs.Prelude.{◌≡◌};
 ghost use Rattle.world.specs.World.{records_at, records_after, fresh_records};
 
+use block::store::write;
+use block::word_at;
 use calls::{Records, nothing};
 use numbers::CLIENTS;
 
@@ -16,15 +18,10 @@ pub fn fresh_records() -> [Records; CLIENTS]
 }
 
 // The records of the client that a call names; of a client that there is none, records with nothing under way.
-pub fn records_at(records: [Records; CLIENTS], client: u64) -> Records
-    ensures { result ≡ records_at records client }
+pub fn records_at(records: &[Records], client: u64) -> Records
+    ensures { result ≡ records_at records.now client }
 {
-    if client < CLIENTS as u64 {
-        let at = client as usize;
-        records[at]
-    } else {
-        nothing()
-    }
+    word_at(records, client as usize, nothing())
 }
 
 // The records of every client after a call handed back those of one.
@@ -32,10 +29,6 @@ pub fn records_after(records: [Records; CLIENTS], client: u64, next: Records) ->
     ensures { result ≡ records_after records client next }
 {
     let mut after = records;
-    if client < CLIENTS as u64 {
-        let at = client as usize;
-        after[at] = next;
-        return after;
-    }
+    write(&mut after, client as usize, next);
     after
 }

@@ -4,7 +4,4 @@ use Rattle.trace.proofs.Slots.{Below}
 use Rattle.trace.proofs.ending.put_slots.Given as goal
 
 abbrev pub invariant-loop-slot : goal.invariant-loop-slot
-invariant-loop-slot l = record { in_range : l.slot ≤ length l.headers; below : Below l.headers l.fn.out l.at l.out l.slot l.end }
-
-abbrev pub decreases-loop-slot : goal.decreases-loop-slot
-decreases-loop-slot l = length l.headers - l.slot
+invariant-loop-slot l = Below l.headers l.fn.out l.at l.out l.slot l.end
