@@ -16,7 +16,8 @@ use numbers::{CELLS, CLIENTS, Client, Era, SLOTS, Slot};
 // The cells of all clients.
 pub const ALL_CELLS: usize = CLIENTS * CELLS;
 
-// The byte of an empty cell: it names no slot.
+// The byte of an empty cell: it names no slot. Bytes stay in the block, and no Options: who lends cells lends bytes, to
+// `cell_at`, `lowest_full` and the calls, and would have to make Options of them first.
 pub const EMPTY: u8 = 255;
 
 // What an operation does to its slot's count.
@@ -112,7 +113,7 @@ pub fn header_at(headers: &[u64], slot: Slot) -> u64
     word_at(headers, slot.0 as usize, 0)
 }
 
-// What a cell's byte says.
+// What a cell's byte says. No `From`: neither a byte nor an Option is a type of this crate.
 pub fn cell_in(byte: u8) -> Option<Slot>
     ensures { result ≡ cell_in byte }
 {

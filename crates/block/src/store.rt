@@ -92,7 +92,7 @@ pub fn write<T: Drop>(words: &mut [T], place: usize, word: T)
     }
 }
 
-// The byte of what a cell holds.
+// The byte of what a cell holds. No `From`, as for `cell_in`.
 pub fn byte_of(held: Option<Slot>) -> u8
     ensures { result ≡ byte_of held }
 {

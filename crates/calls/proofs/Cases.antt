@@ -1,8 +1,8 @@
 -- The cases of a call: a check refuses it, or it does what it does once accepted. Who reasons about every call goes by
 -- these. Assumes nothing.
 use Prim.Native.Nat.{ℕ}
-use mathlib.Core.Bool.{Bool, true, false, cond}
 use mathlib.Core.List.{List, [], ◌∷◌}
+use Rattle.std.proofs.lemmas.Bool.{cond_both}
 use Rattle.numbers.specs.declared.answers.Answer.{Answer}
 use Rattle.block.specs.declared.Block.{Block}
 use Rattle.block.specs.declared.store.Store.{Store}
@@ -16,11 +16,6 @@ use Rattle.calls.specs.Checks.{Check, unchanged, refused, after_checks}
 use Rattle.calls.specs.Calls.{client, accepted, of_client, of_rescuer, shows_cell, asks, effect, checks, plain_call}
 
 module _ (P : Outcome Records → Type 0) (given : Records) where
-  -- it holds of a choice where it holds of both
-  pub either : (test : Bool) (o p : Outcome Records) → P o → P p → P (cond test o p)
-  either true o p a b = a
-  either false o p a b = b
-
   -- it holds of the refusal of every check of a list
   abbrev pub Refuses : List Check → Type 0
   Refuses [] = Unit {0}
@@ -30,9 +25,9 @@ module _ (P : Outcome Records → Type 0) (given : Records) where
   pub after_checks_lem : (list : List Check) (o : Outcome Records) → Refuses list → P o → P (after_checks list given o)
   after_checks_lem [] o r a = a
   after_checks_lem (check ∷ rest) o r a =
-      either check.passes (after_checks rest given o) (refused check.refusal given)
-      (after_checks_lem rest o r.1 a)
-      r.0
+      cond_both check.passes (after_checks rest given o) (refused check.refusal given) P
+      (λ e. after_checks_lem rest o r.1 a)
+      (λ e. r.0)
 
   module _ (one : P (unchanged Answer.NoSuchClient given)) (two : P (unchanged Answer.NoSuchCell given))
       (three : P (unchanged Answer.NoSuchSlot given)) (four : P (unchanged Answer.WrongStanding given))

@@ -7,6 +7,7 @@ use mathlib.Core.List.{List}
 use mathlib.Core.Logic.{⊎_elim}
 use mathlib.Core.Path.{◌≡◌, refl, sym, ap, ◌∙◌}
 use Rattle.std.specs.Prelude.{Option, Some, None}
+use Rattle.std.proofs.lemmas.Bool.{cond_both}
 use Rattle.numbers.specs.declared.answers.Answer.{Answer}
 use Rattle.numbers.specs.declared.Client.{Client}
 use Rattle.block.specs.declared.Block.{Block}
@@ -31,7 +32,7 @@ use Rattle.numbers.specs.declared.Slot.{Slot}
 use Rattle.calls.specs.Checks.{unchanged}
 use Rattle.calls.specs.Calls.{client, of_client, of_rescuer, looked, shown, checked_call}
 use Rattle.calls.specs.Demands.{leaves_everything, ends_operation, ended, Demand1}
-use Rattle.calls.proofs.Cases.{either, plain_cases}
+use Rattle.calls.proofs.Cases.{plain_cases}
 
 -- what an outcome owes to the records that its call was given
 record Owes (given : Records) (o : Outcome Records) : Type 0 where
@@ -129,8 +130,8 @@ looked_ends_none stage held k = tested (releasing stage k) held
 call_owes : (call : Call) (b : Block) (eras : List (List ℕ)) (given : Records) → Owes given (checked_call call b eras given)
 unfolding checked_call
 call_owes call b eras given =
-    either (Owes given) given (within call.client b eras given.client given.rescuer) _ _
-    (plain_cases (Owes given) given
+    cond_both (within call.client b eras given.client given.rescuer) _ _ (Owes given)
+    (λ e. plain_cases (Owes given) given
     (refusal given _ refl) (refusal given _ refl) (refusal given _ refl) (refusal given _ refl)
     (refusal given _ refl) (refusal given _ refl) (refusal given _ refl) (refusal given _ refl)
     b eras call.client
@@ -140,7 +141,7 @@ call_owes call b eras given =
     given.rescuer.step)
     (λ k. refusal given _ (looked_ends_none given.client.stage (cell_at b.cells call.client k) k))
     call.act)
-    (refusal given Answer.BeyondLimits refl)
+    (λ e. refusal given Answer.BeyondLimits refl)
 
 -- D1: any call, any numbers, any words
 pub demand1 : (call : Call) (b : Block) (eras : List (List ℕ)) (given : Records) → Demand1 call b eras given

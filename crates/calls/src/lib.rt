@@ -104,26 +104,14 @@ pub fn accepted(records: Records, store: Store) -> Outcome<Records>
 pub fn of_client(stepped: Outcome<ClientRecord>, records: Records) -> Outcome<Records>
     ensures { result ≡ of_client stepped records }
 {
-    Outcome {
-        answer: stepped.answer,
-        next: Records {
-            client: stepped.next,
-            ..records
-        },
-        store: stepped.store,
-    }
+    let client = stepped.next;
+    stepped.handing(Records { client, ..records })
 }
 
 // A rescuer's step as the outcome of a call.
 pub fn of_rescuer(rescued: Outcome<RescuerRecord>, records: Records) -> Outcome<Records>
     ensures { result ≡ of_rescuer rescued records }
 {
-    Outcome {
-        answer: rescued.answer,
-        next: Records {
-            rescuer: rescued.next,
-            ..records
-        },
-        store: rescued.store,
-    }
+    let rescuer = rescued.next;
+    rescued.handing(Records { rescuer, ..records })
 }

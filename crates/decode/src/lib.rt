@@ -20,7 +20,8 @@ fn known(client: u8, act: Act) -> Option<Call>
     })
 }
 
-// The call that a record's four bytes name: call, client, cell, slot.
+// The call that a record's four bytes name: call, client, cell, slot. The first byte decides, with a range for the
+// others (R9.8).
 #[tactic(auto, unfolding(crate::specs::Decode::decoded))]
 pub fn decode(bytes: [u8; RECORD]) -> Option<Call>
     ensures { result ≡ first_asked bytes }

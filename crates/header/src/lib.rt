@@ -24,7 +24,7 @@ pub fn pack(fields: Fields) -> u64
         | u64::from(fields.client.0) << 48
 }
 
-// The fields that `word` holds. Its bits 56 to 63 are not among them.
+// The fields that `word` holds. Its bits 56 to 63 are not among them. Named, as the other way round.
 pub fn unpack(word: u64) -> Fields
     ensures { result ≡ unpacked word }
 {

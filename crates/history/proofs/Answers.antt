@@ -4,7 +4,6 @@ use Prim.Native.Nat.{ℕ}
 use mathlib.Core.Bool.{Bool, true, false, cond}
 use mathlib.Core.List.{List}
 use mathlib.Core.Path.{◌≡◌}
-use native.Mathlib.Omega.{arith}
 use Rattle.std.specs.Prelude.{Option, Some, None}
 use Rattle.numbers.specs.declared.answers.Answer.{Answer}
 use Rattle.block.specs.declared.Block.{Block}
@@ -22,7 +21,6 @@ use Rattle.calls.specs.declared.Records.{Records}
 use Rattle.numbers.specs.declared.Slot.{Slot}
 use Rattle.calls.specs.Calls.{client, looked, shown, plain_call}
 use Rattle.calls.proofs.Cases.{plain_cases}
-use Rattle.history.proofs.Updates.{apart}
 
 -- an answer that is not 11
 abbrev Told : Answer → Type 0
@@ -34,9 +32,9 @@ unfolding looked
 look_told stage held k = by_cell (releasing stage k) held
   where
     by_cell : (test : Bool) (held : Option Slot) → Told (cond test Answer.ShowsNothing (shown held))
-    by_cell true held = apart _ _ (λ e. omega arith)
-    by_cell false None = apart _ _ (λ e. omega arith)
-    by_cell false (Some s) = apart _ _ (λ e. omega arith)
+    by_cell true held = λ e. cc
+    by_cell false None = λ e. cc
+    by_cell false (Some s) = λ e. cc
 
 -- every call
 pub never_beyond :
@@ -44,18 +42,18 @@ pub never_beyond :
 unfolding step_of rescue_of
 never_beyond call b eras given =
     plain_cases (λ (o : Outcome Records). Told o.answer) given
-    (apart _ _ (λ e. omega arith))
-    (apart _ _ (λ e. omega arith))
-    (apart _ _ (λ e. omega arith))
-    (apart _ _ (λ e. omega arith))
-    (apart _ _ (λ e. omega arith))
-    (apart _ _ (λ e. omega arith))
-    (apart _ _ (λ e. omega arith))
-    (apart _ _ (λ e. omega arith))
+    (λ e. cc)
+    (λ e. cc)
+    (λ e. cc)
+    (λ e. cc)
+    (λ e. cc)
+    (λ e. cc)
+    (λ e. cc)
+    (λ e. cc)
     b eras call.client
     (λ r store. accepted)
     (step_answers Told (client call.client) (header_at b.headers) (λ j. (seen_era eras call.client j).0)
-    (apart _ _ (λ e. omega arith)) accepted (apart _ _ (λ e. omega arith)) (apart _ _ (λ e. omega arith)) lost
+    (λ e. cc) accepted (λ e. cc) (λ e. cc) lost
     finished given.client.stage)
     (rescue_answers Told accepted lost finished (client call.client) (header_at b.headers)
     (λ j. (seen_era eras call.client j).0) (λ j. (seen_era eras j call.client).0) (log_at b.logs call.client)
@@ -64,10 +62,10 @@ never_beyond call b eras given =
     call.act
   where
     accepted : Told Answer.Accepted
-    accepted = apart _ _ (λ e. omega arith)
+    accepted = λ e. cc
 
     lost : Told Answer.SwapLost
-    lost = apart _ _ (λ e. omega arith)
+    lost = λ e. cc
 
     finished : Told Answer.Finished
-    finished = apart _ _ (λ e. omega arith)
+    finished = λ e. cc

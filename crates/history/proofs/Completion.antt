@@ -3,12 +3,14 @@
 use Prim.Native.Nat.{ℕ, ◌+◌, ◌<◌}
 use mathlib.Core.Bool.{Bool, true, false, false≢true, cond, and-false}
 use mathlib.Core.List.{List, []}
+use mathlib.Core.Logic.{⊎_elim}
 use mathlib.Core.Path.{◌≡◌, refl, sym, ap, ◌∙◌}
 use native.Mathlib.Nat.{add-zero}
 use native.Mathlib.Omega.{arith}
 use lib.Dec.{eqb}
 use borrow.Author.Tests.{lt-ltb}
 use Rattle.std.specs.Prelude.{Option, Some, None}
+use Rattle.std.proofs.lemmas.Bool.{cases_Bool, and_from}
 use Rattle.numbers.specs.Sizes.{clients, cells}
 use Rattle.numbers.specs.declared.answers.Answer.{Answer}
 use Rattle.block.specs.declared.Standing.{Standing}
@@ -28,7 +30,6 @@ use Rattle.calls.specs.Named.{fail, rescue_step}
 use Rattle.world.specs.World.{World, records_at, fresh, answer, after, run}
 use Rattle.history.specs.Ledger.{Line, past_swap, all_pass, accepts, performed, ledger, wins}
 use Rattle.history.specs.Demand3.{NoLines, NoEntries, era, standing, CompletesExactlyWhenWon}
-use Rattle.history.proofs.Updates.{by_test, and_both}
 use Rattle.history.proofs.Counting.{no_lines}
 use Rattle.history.proofs.Invariant.{Won, none, extra, vis, won_of}
 use Rattle.history.proofs.Moves.{now}
@@ -44,7 +45,7 @@ module _ (w : World) (ghosts : ℕ → Won) (lines : List Line) (good : Good w g
   -- a call whose checks pass is accepted
   pub accepts_it : (call : Call) → Passed (checks_of w call) → accepts w call ≡ true
   accepts_it call p =
-      and_both _ (all_pass (checks_of w call)) (all_within w ghosts lines good call.client)
+      and_from _ (all_pass (checks_of w call)) (all_within w ghosts lines good call.client)
       (all_passed (checks_of w call) p)
 
   module _ (c : ℕ) (l : c < clients) (s : standing w c ≡ Standing.InRescue) where
@@ -92,9 +93,10 @@ module _ (w : World) (ghosts : ℕ → Won) (lines : List Line) (good : Good w g
 -- an operation that is won is one more, exactly where it is open past its swap
 past_one : (stage : Stage) → extra (won_of (past_swap stage) (open_in stage)) ≡ cond (past_swap stage) 1 0
 past_one stage =
-    by_test (idle stage)
+    ⊎_elim
     (λ (t : idle stage ≡ true). rw (stage_idle stage t))
     (λ (t : idle stage ≡ false). by_open (open_in stage) (past_swap stage) t)
+    (cases_Bool (idle stage))
   where
     by_open : (o : Option Operation) (b : Bool) → none_open o ≡ false → extra (won_of b o) ≡ cond b 1 0
     by_open None b e = absurd (false≢true (sym e))
@@ -106,7 +108,7 @@ fail_wins : (w : World) (c : ℕ) → wins c w (fail c) ≡ false
 fail_wins w c = rw (idle_then, and-false (eqb c c))
   where
     idle_then : performed w (fail c) ≡ Stage.Idle
-    idle_then = by_test (accepts w (fail c)) (performed_accepted w (fail c)) (performed_refused w (fail c))
+    idle_then = ⊎_elim (performed_accepted w (fail c)) (performed_refused w (fail c)) (cases_Bool (accepts w (fail c)))
 
 -- from a failure to the 100 of the rescue the own era has risen by the swaps won meanwhile, and by one more exactly
 -- where the open swap had been won

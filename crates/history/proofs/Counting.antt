@@ -3,18 +3,19 @@
 use Prim.Native.Nat.{ℕ, zero, suc, ◌+◌, ◌*◌, ◌<◌, ◌≤◌}
 use mathlib.Core.Bool.{Bool, true, false, cond, ◌&&◌, and-false}
 use mathlib.Core.List.{List, [], ◌∷◌}
+use mathlib.Core.Logic.{⊎_elim}
 use mathlib.Core.Path.{◌≡◌, refl, sym, ap, ◌∙◌}
 use native.Mathlib.Nat.{zero-add}
 use native.Mathlib.Omega.{arith}
 use lib.Dec.{eqb}
 use lib.ListN.{length}
 use borrow.Author.Tests.{eqb-true, eq-eqb, ne_eqb}
+use Rattle.std.proofs.lemmas.Bool.{cases_Bool, cases_eq, and_parts, and_from, false_from_ne_true}
 use Rattle.numbers.specs.Sizes.{clients, cells, count_limit}
 use Rattle.numbers.specs.declared.answers.Answer.{Answer}
 use Rattle.block.specs.declared.Operation.{Operation}
 use Rattle.history.specs.Ledger.{Phase, visible, closing, Line, line_of, is_entry, is_line, struck, in_phase, phased, naming, is_visible, shown_by}
 use Rattle.history.specs.Demand3.{NoLines}
-use Rattle.history.proofs.Updates.{by_test, by_equal, and_left, and_right, and_both, apart}
 
 -- the slots that the lines of client c and cell k name
 unfoldable pub slots_at : ℕ → ℕ → List Line → List ℕ
@@ -31,10 +32,6 @@ abbrev pub Ranged : List Line → Type 0
 Ranged [] = Unit {0}
 Ranged (l ∷ rest) = (l.client < clients) × ((l.cell < cells) × Ranged rest)
 
--- a list with a line is not the empty one
-no_cons : {A : Type 0} {a : A} {rest : List A} → a ∷ rest ≡ [] → ⊥
-no_cons e = let z : ◌≡◌ {A = ℕ} 0 1 = cc in omega arith
-
 -- the lines of client c look alike in two ledgers
 pub record Alike (c : ℕ) (old new : List Line) : Type 0 where
   pub slots : (k : ℕ) → slots_at c k new ≡ slots_at c k old
@@ -47,20 +44,17 @@ alike = record { slots = λ k. refl; lines = refl; shows = λ k. refl }
 
 -- a line of client c and cell k is of client c
 entry_client : (c k : ℕ) (l : Line) → is_entry c k l ≡ true → l.client ≡ c
-entry_client c k l e = eqb-true l.client c (and_left (eqb l.client c) (eqb l.cell k) e)
+entry_client c k l e = eqb-true l.client c (and_parts (eqb l.client c) (eqb l.cell k) e).0
 
 -- a line of client c and cell k is of cell k
 entry_cell : (c k : ℕ) (l : Line) → is_entry c k l ≡ true → l.cell ≡ k
-entry_cell c k l e = eqb-true l.cell k (and_right (eqb l.client c) (eqb l.cell k) e)
+entry_cell c k l e = eqb-true l.cell k (and_parts (eqb l.client c) (eqb l.cell k) e).1
 
 -- a line of one cell is of no other
 entry_other : (c k d j : ℕ) (l : Line) → (d ≡ c → j ≡ k → ⊥) → is_entry c k l ≡ true → is_entry d j l ≡ false
 entry_other c k d j l far e =
-    by_test (is_entry d j l)
-    (λ t.
-    absurd
-    (far (sym (entry_client d j l t) ∙ entry_client c k l e) (sym (entry_cell d j l t) ∙ entry_cell c k l e)))
-    (λ f. f)
+    false_from_ne_true (is_entry d j l)
+    (λ t. far (sym (entry_client d j l t) ∙ entry_client c k l e) (sym (entry_cell d j l t) ∙ entry_cell c k l e))
 
 -- a line of one client is of no other
 entry_stays : (c k d : ℕ) (l : Line) → (d ≡ c → ⊥) → is_entry c k l ≡ true → eqb l.client d ≡ false
@@ -70,7 +64,7 @@ entry_stays c k d l far e = ne_eqb l.client d (λ q. far (sym q ∙ entry_client
 module _ (c : ℕ) (op : Operation) (lines : List Line) where
   -- the line entered is of its client and cell
   entered_is : is_entry c op.cell (line_of c op) ≡ true
-  entered_is = and_both (eqb c c) (eqb op.cell op.cell) (eq-eqb c c refl) (eq-eqb op.cell op.cell refl)
+  entered_is = and_from (eqb c c) (eqb op.cell op.cell) (eq-eqb c c refl) (eq-eqb op.cell op.cell refl)
 
   -- the cell of the line entered has one line more
   pub slots_entered : slots_at c op.cell (line_of c op ∷ lines) ≡ op.slot.0 ∷ slots_at c op.cell lines
@@ -116,11 +110,11 @@ module _ (c : ℕ) (op : Operation) where
   -- a line of the cell that names the slot is the one struck out
   entry_hit : (l : Line) → is_entry c op.cell l ≡ true → l.slot ≡ op.slot.0 → hit l ≡ true
   entry_hit l e q =
-      and_both (is_entry c op.cell l) (eqb l.slot op.slot.0) e (eq-eqb l.slot op.slot.0 q)
+      and_from (is_entry c op.cell l) (eqb l.slot op.slot.0) e (eq-eqb l.slot op.slot.0 q)
 
   -- the line struck out is of the cell
   hit_entry : (l : Line) → hit l ≡ true → is_entry c op.cell l ≡ true
-  hit_entry l e = and_left (is_entry c op.cell l) (eqb l.slot op.slot.0) e
+  hit_entry l e = (and_parts (is_entry c op.cell l) (eqb l.slot op.slot.0) e).0
 
   -- a line of another cell is not struck out
   no_hit : (l : Line) → is_entry c op.cell l ≡ false → hit l ≡ false
@@ -136,10 +130,11 @@ module _ (c : ℕ) (op : Operation) where
   unfolding struck
   struck_keeps f step cons same [] = refl
   struck_keeps f step cons same (l ∷ rest) =
-      by_test (hit l)
+      ⊎_elim
       (λ (e : hit l ≡ true). rw e (sym (cons l rest ∙ same l (f rest) (hit_entry l e))))
       (λ (e : hit l ≡ false).
       rw e (cons l (struck c op rest) ∙ ap (step l) (struck_keeps f step cons same rest) ∙ sym (cons l rest)))
+      (cases_Bool (hit l))
 
   module _ (d j : ℕ) (far : d ≡ c → j ≡ op.cell → ⊥) where
     -- every other cell keeps its lines
@@ -181,24 +176,27 @@ module _ (c : ℕ) (op : Operation) where
   unfolding shown_by struck
   shows_struck d j [] e = e
   shows_struck d j (l ∷ rest) e =
-      by_test (is_entry d j l && is_visible l.phase)
+      ⊎_elim
       (λ (t : (is_entry d j l && is_visible l.phase) ≡ true).
       let s : Answer.Shows (record { 0 = l.slot }) ≡ Answer.ShowsNothing = rw t at e in
-      absurd (apart _ _ (λ q. omega arith) s))
+      cc)
       (λ (t : (is_entry d j l && is_visible l.phase) ≡ false).
       let r : shown_by d j rest ≡ Answer.ShowsNothing = rw t at e in
-      by_test (hit l)
+      ⊎_elim
       (λ (q : hit l ≡ true). rw q r)
-      (λ (q : hit l ≡ false). rw (q, t) (shows_struck d j rest r)))
+      (λ (q : hit l ≡ false). rw (q, t) (shows_struck d j rest r))
+      (cases_Bool (hit l)))
+      (cases_Bool (is_entry d j l && is_visible l.phase))
 
   -- the lines that are left are in range
   pub ranged_struck : (lines : List Line) → Ranged lines → Ranged (struck c op lines)
   unfolding struck
   ranged_struck [] r = r
   ranged_struck (l ∷ rest) r =
-      by_test (hit l)
+      ⊎_elim
       (λ (e : hit l ≡ true). rw e r.1.1)
       (λ (e : hit l ≡ false). rw e (r.0, (r.1.0, ranged_struck rest r.1.1)))
+      (cases_Bool (hit l))
 
   -- a cell with one line has none once it is struck out
   pub slots_struck :
@@ -206,15 +204,16 @@ module _ (c : ℕ) (op : Operation) where
       slots_at c op.cell lines ≡ op.slot.0 ∷ [] →
       slots_at c op.cell (struck c op lines) ≡ []
   unfolding slots_at struck
-  slots_struck [] e = absurd (no_cons (sym e))
+  slots_struck [] e = cc
   slots_struck (l ∷ rest) e =
-      by_test (is_entry c op.cell l)
+      ⊎_elim
       (λ (t : is_entry c op.cell l ≡ true).
       let q : l.slot ∷ slots_at c op.cell rest ≡ op.slot.0 ∷ [] = rw t at e in
       rw (entry_hit l t (cc)) (cc))
       (λ (t : is_entry c op.cell l ≡ false).
       let q : slots_at c op.cell rest ≡ op.slot.0 ∷ [] = rw t at e in
       rw (no_hit l t, t) (slots_struck rest q))
+      (cases_Bool (is_entry c op.cell l))
 
   -- a sum over the lines loses what the line struck out weighs
   struck_less :
@@ -225,9 +224,9 @@ module _ (c : ℕ) (op : Operation) where
       slots_at c op.cell lines ≡ op.slot.0 ∷ [] →
       f lines ≡ n + f (struck c op lines)
   unfolding slots_at struck
-  struck_less f weight n cons weighs [] e = absurd (no_cons (sym e))
+  struck_less f weight n cons weighs [] e = cc
   struck_less f weight n cons weighs (l ∷ rest) e =
-      by_test (is_entry c op.cell l)
+      ⊎_elim
       (λ (t : is_entry c op.cell l ≡ true).
       let q : l.slot ∷ slots_at c op.cell rest ≡ op.slot.0 ∷ [] = rw t at e in
       let same : l.slot ≡ op.slot.0 = cc in
@@ -238,6 +237,7 @@ module _ (c : ℕ) (op : Operation) where
       let here = cons l rest in
       let there = cons l (struck c op rest) in
       rw (no_hit l t) (omega arith))
+      (cases_Bool (is_entry c op.cell l))
 
   -- the slot has one line less, the others as many
   pub naming_struck :
@@ -263,15 +263,15 @@ module _ (c : ℕ) (op : Operation) where
 module _ (p : Phase) (c k : ℕ) where
   -- a line in another phase names the same slot
   phase_slot : (l : Line) → (in_phase p c k l).slot ≡ l.slot
-  phase_slot l = by_test (is_entry c k l) (λ (e : is_entry c k l ≡ true). rw e) (λ (e : is_entry c k l ≡ false). rw e)
+  phase_slot l = ⊎_elim (λ (e : is_entry c k l ≡ true). rw e) (λ (e : is_entry c k l ≡ false). rw e) (cases_Bool (is_entry c k l))
 
   -- a line in another phase is of the same client
   phase_client : (l : Line) → (in_phase p c k l).client ≡ l.client
-  phase_client l = by_test (is_entry c k l) (λ (e : is_entry c k l ≡ true). rw e) (λ (e : is_entry c k l ≡ false). rw e)
+  phase_client l = ⊎_elim (λ (e : is_entry c k l ≡ true). rw e) (λ (e : is_entry c k l ≡ false). rw e) (cases_Bool (is_entry c k l))
 
   -- a line in another phase is of the same cell
   phase_cell : (l : Line) → (in_phase p c k l).cell ≡ l.cell
-  phase_cell l = by_test (is_entry c k l) (λ (e : is_entry c k l ≡ true). rw e) (λ (e : is_entry c k l ≡ false). rw e)
+  phase_cell l = ⊎_elim (λ (e : is_entry c k l ≡ true). rw e) (λ (e : is_entry c k l ≡ false). rw e) (cases_Bool (is_entry c k l))
 
   -- every cell has the same lines
   pub slots_phased : (d j : ℕ) (lines : List Line) → slots_at d j (phased p c k lines) ≡ slots_at d j lines
@@ -306,9 +306,10 @@ module _ (p : Phase) (c k : ℕ) where
   unfolding shown_by phased
   shows_beside d j far [] = refl
   shows_beside d j far (l ∷ rest) =
-      by_test (is_entry c k l)
+      ⊎_elim
       (λ (e : is_entry c k l ≡ true). rw (e, entry_other c k d j l far e, shows_beside d j far rest))
       (λ (e : is_entry c k l ≡ false). rw (e, shows_beside d j far rest))
+      (cases_Bool (is_entry c k l))
 
   -- the lines of the others are as before
   pub alike_phased : (lines : List Line) (d : ℕ) → (d ≡ c → ⊥) → Alike d lines (phased p c k lines)
@@ -324,9 +325,10 @@ pub shows_closing : (c k : ℕ) (lines : List Line) → shown_by c k (phased clo
 unfolding shown_by phased
 shows_closing c k [] = refl
 shows_closing c k (l ∷ rest) =
-    by_test (is_entry c k l)
+    ⊎_elim
     (λ (e : is_entry c k l ≡ true). rw (e, e) (shows_closing c k rest))
     (λ (e : is_entry c k l ≡ false). rw (e, e) (shows_closing c k rest))
+    (cases_Bool (is_entry c k l))
 
 -- a cell that is written shows its line
 pub shows_visible :
@@ -334,24 +336,26 @@ pub shows_visible :
     slots_at c k lines ≡ s ∷ [] →
     shown_by c k (phased visible c k lines) ≡ Answer.Shows (record { 0 = s })
 unfolding shown_by phased slots_at
-shows_visible c k s [] q = absurd (no_cons (sym q))
+shows_visible c k s [] q = cc
 shows_visible c k s (l ∷ rest) q =
-    by_test (is_entry c k l)
+    ⊎_elim
     (λ (e : is_entry c k l ≡ true).
     let r : l.slot ∷ slots_at c k rest ≡ s ∷ [] = rw e at q in
     let same : l.slot ≡ s = cc in rw (e, e, same))
     (λ (e : is_entry c k l ≡ false). rw (e, e) (shows_visible c k s rest (rw e at q)))
+    (cases_Bool (is_entry c k l))
 
 -- a cell with no line shows nothing
 pub shows_none : (c k : ℕ) (lines : List Line) → slots_at c k lines ≡ [] → shown_by c k lines ≡ Answer.ShowsNothing
 unfolding shown_by slots_at
 shows_none c k [] q = refl
 shows_none c k (l ∷ rest) q =
-    by_test (is_entry c k l)
+    ⊎_elim
     (λ (e : is_entry c k l ≡ true).
     let r : l.slot ∷ slots_at c k rest ≡ [] = rw e at q in
-    absurd (no_cons r))
+    cc)
     (λ (e : is_entry c k l ≡ false). rw e (shows_none c k rest (rw e at q)))
+    (cases_Bool (is_entry c k l))
 
 -- The pigeonhole: a sum over the numbers below n.
 unfoldable sum_to : ℕ → (ℕ → ℕ) → ℕ
@@ -390,11 +394,12 @@ sum_one : (x n : ℕ) → x < n → sum_to n (λ i. cond (eqb x i) 1 0) ≡ 1
 unfolding sum_to
 sum_one x zero h = absurd (omega arith)
 sum_one x (suc n) h =
-    by_equal x n
+    ⊎_elim
     (λ (e : x ≡ n). rw (eq-eqb x n e, sum_none x n (omega arith)))
     (λ (e : x ≡ n → ⊥).
     let q = sum_one x n (omega arith) in
     rw (ne_eqb x n e) (rw q))
+    (cases_eq x n)
 
 -- noughts sum up to nought
 sum_zero : (n : ℕ) → sum_to n (λ i. 0) ≡ 0
@@ -412,17 +417,19 @@ share :
     length (slots_at c k (l ∷ rest)) ≡ cond (is_entry c k l) 1 0 + length (slots_at c k rest)
 unfolding slots_at
 share c k l rest =
-    by_test (is_entry c k l)
+    ⊎_elim
     (λ (t : is_entry c k l ≡ true). rw t (sym (one_more (length (slots_at c k rest)))))
     (λ (t : is_entry c k l ≡ false). rw t (sym (zero-add (length (slots_at c k rest)))))
+    (cases_Bool (is_entry c k l))
 
 -- a line of the client is in one of its cells
 one_cell :
     (c : ℕ) (l : Line) → l.cell < cells → sum_to cells (λ k. cond (is_entry c k l) 1 0) ≡ cond (eqb l.client c) 1 0
 one_cell c l b =
-    by_test (eqb l.client c)
+    ⊎_elim
     (λ (t : eqb l.client c ≡ true). rw t (sum_one l.cell cells b))
     (λ (t : eqb l.client c ≡ false). rw t (sum_zero cells))
+    (cases_Bool (eqb l.client c))
 
 -- the lines of a client are those of its cells
 cells_of : (c : ℕ) (lines : List Line) → Ranged lines → lines_of c lines ≡ sum_to cells (λ k. length (slots_at c k lines))
@@ -454,9 +461,10 @@ unfolding naming
 naming_few s [] = omega arith
 naming_few s (l ∷ rest) =
     let e = naming_few s rest in
-    by_test (eqb l.slot s)
+    ⊎_elim
     (λ (t : eqb l.slot s ≡ true). rw t (omega arith))
     (λ (t : eqb l.slot s ≡ false). rw t (omega arith))
+    (cases_Bool (eqb l.slot s))
 
 -- each cell has at most one line
 abbrev pub Single : ℕ → List Line → Type 0
@@ -493,15 +501,16 @@ no_lines c (l ∷ rest) r h =
     full : (k : ℕ) → l.client ≡ c → l.cell ≡ k → slots_at c k (l ∷ rest) ≡ [] → ⊥
     full k e f q =
         let both : is_entry c k l ≡ true =
-        and_both (eqb l.client c) (eqb l.cell k) (eq-eqb l.client c e) (eq-eqb l.cell k f)
+        and_from (eqb l.client c) (eqb l.cell k) (eq-eqb l.client c e) (eq-eqb l.cell k f)
         in
         let none : l.slot ∷ slots_at c k rest ≡ [] = rw both at q in
-        no_cons none
+        cc
 
     rest_none : (k : ℕ) → slots_at c k (l ∷ rest) ≡ [] → slots_at c k rest ≡ []
     rest_none k q =
-        by_test (is_entry c k l)
+        ⊎_elim
         (λ (t : is_entry c k l ≡ true).
         let none : l.slot ∷ slots_at c k rest ≡ [] = rw t at q in
-        absurd (no_cons none))
+        cc)
         (λ (t : is_entry c k l ≡ false). rw t at q)
+        (cases_Bool (is_entry c k l))

@@ -2,10 +2,12 @@
 use Prim.Native.Nat.{ℕ, ◌<◌}
 use mathlib.Core.Bool.{true, false, false≢true, cond}
 use mathlib.Core.List.{List}
+use mathlib.Core.Logic.{⊎_elim}
 use mathlib.Core.Path.{◌≡◌, refl, sym, ap, ◌∙◌}
 use lib.Dec.{eqb}
 use borrow.Author.Tests.{ltb-true, eqb-true, eq-eqb, ne_eqb, not-true}
 use Rattle.std.specs.Prelude.{Option, Some, None}
+use Rattle.std.proofs.lemmas.Bool.{cases_eq}
 use Rattle.numbers.specs.Sizes.{clients, slots, cells}
 use Rattle.numbers.specs.declared.answers.Answer.{Answer}
 use Rattle.block.specs.declared.Kind.{Kind}
@@ -30,7 +32,6 @@ use Rattle.calls.specs.Named.{of}
 use Rattle.world.specs.World.{World, records_at}
 use Rattle.history.specs.Ledger.{Line, closing, phased, wins_at, by_stage}
 use Rattle.history.specs.Demand3.{standing}
-use Rattle.history.proofs.Updates.{by_equal}
 use Rattle.history.proofs.Counting.{shows_none, shows_closing, shows_beside}
 use Rattle.history.proofs.Invariant.{Won, Words, vis, column, CellFits, OpFits, BeforeSwap, Shown, Clause, Inv}
 use Rattle.history.proofs.Frame.{Move}
@@ -237,11 +238,12 @@ module _ (w : World) (ghosts : ℕ → Won) (lines : List Line) (inv : Inv (hdr_
       Shown a (mine w ghosts a).cells (phased closing a op.cell lines) (Stage.Load op)
   unfolding looked
   shown_closing op r sh j l =
-      by_equal j op.cell
+      ⊎_elim
       (λ (q : j ≡ op.cell). rw (r, q, eq-eqb op.cell op.cell refl) (shows_closing a op.cell lines))
       (λ (o : j ≡ op.cell → ⊥).
       rw (r, ne_eqb op.cell j (λ q. o (sym q)))
       (shows_beside closing a op.cell a j (λ p q. o q) lines ∙ sh j l))
+      (cases_eq j op.cell)
 
   -- the release of a full cell opens, its checks passed
   release_opens :

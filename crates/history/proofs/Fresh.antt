@@ -1,13 +1,15 @@
 -- The fresh world meets the invariant: one lemma a word. Assumes nothing.
 use Prim.Native.Nat.{ℕ, zero, suc, ◌<◌}
-use mathlib.Core.Bool.{Bool, true, false, cond, ◌&&◌}
+use mathlib.Core.Bool.{Bool, true, false, cond}
 use mathlib.Core.List.{[]}
-use mathlib.Core.Path.{◌≡◌, refl, sym, ap}
+use mathlib.Core.Logic.{⊎_elim}
+use mathlib.Core.Path.{◌≡◌, refl, sym}
 use native.Mathlib.Omega.{arith}
 use lib.Dec.{eqb, ltb}
 use lib.ListN.{length, get_or, replicate, length-replicate}
 use borrow.Author.Tests.{eq-eqb, ne_eqb, eqb-true}
 use Rattle.std.specs.Prelude.{Option, None}
+use Rattle.std.proofs.lemmas.Bool.{cases_Bool, agree_below, agree_below_at}
 use Rattle.numbers.specs.Sizes.{clients, slots, cells}
 use Rattle.header.specs.Header.{spare_in}
 use Rattle.header.proofs.Laws.{zero_era, zero_count, zero_client}
@@ -19,7 +21,6 @@ use Rattle.block.specs.declared.Entry.{Entry}
 use Rattle.calls.specs.Calls.{nothing}
 use Rattle.world.specs.World.{records_at, fresh}
 use Rattle.history.specs.Ledger.{naming}
-use Rattle.history.proofs.Updates.{by_test, by_equal, and_left, and_right}
 use Rattle.history.proofs.Counting.{slots_at, lines_of}
 use Rattle.history.proofs.Invariant.{none, vis, Word}
 use Rattle.history.proofs.View.{Shaped, hdr_of, mine_of}
@@ -31,42 +32,36 @@ same_everywhere zero i v = refl
 same_everywhere (suc n) zero v = refl
 same_everywhere (suc n) (suc i) v = same_everywhere n i v
 
--- a test of every number below n
-below : ℕ → (ℕ → Bool) → Bool
-below zero f = true
-below (suc n) f = f n && below n f
+-- a test of every client
+abbrev all_below : (ℕ → Bool) → Bool
+all_below f = agree_below f (λ i. true) clients
 
--- where every number below n passes, each does
-below_is : (n : ℕ) (f : ℕ → Bool) → below n f ≡ true → (i : ℕ) → i < n → f i ≡ true
-unfolding below
-below_is zero f e i l = absurd (omega arith)
-below_is (suc n) f e i l =
-    by_equal i n
-    (λ (q : i ≡ n). rw q (and_left (f n) (below n f) e))
-    (λ (o : i ≡ n → ⊥). below_is n f (and_right (f n) (below n f) e) i (omega arith))
+-- where every client passes, each does
+each : (f : ℕ → Bool) → all_below f ≡ true → (i : ℕ) → i < clients → f i ≡ true
+each f e i l = agree_below_at f (λ i. true) clients i e l
 
 -- own eras 1, all others 0, computed
-seen_tests : below clients (λ i. below clients (λ j. eqb (seen_era fresh_eras i j).0 (cond (eqb i j) 1 0))) ≡ true
-unfolding below fresh_eras
+seen_tests : all_below (λ i. all_below (λ j. eqb (seen_era fresh_eras i j).0 (cond (eqb i j) 1 0))) ≡ true
+unfolding fresh_eras
 seen_tests = refl
 
 -- each row has an entry for each client, computed
-row_tests : below clients (λ i. eqb (length (get_or fresh_eras i [])) clients) ≡ true
-unfolding below fresh_eras
+row_tests : all_below (λ i. eqb (length (get_or fresh_eras i [])) clients) ≡ true
+unfolding fresh_eras
 row_tests = refl
 
 -- own eras are 1, all others 0
 fresh_seen : (i : ℕ) → i < clients → (j : ℕ) → j < clients → (seen_era fresh_eras i j).0 ≡ cond (eqb i j) 1 0
 fresh_seen i l j m =
     eqb-true _ _
-    (below_is clients (λ j. eqb (seen_era fresh_eras i j).0 (cond (eqb i j) 1 0))
-    (below_is clients (λ i. below clients (λ j. eqb (seen_era fresh_eras i j).0 (cond (eqb i j) 1 0))) seen_tests i l)
+    (each (λ j. eqb (seen_era fresh_eras i j).0 (cond (eqb i j) 1 0))
+    (each (λ i. all_below (λ j. eqb (seen_era fresh_eras i j).0 (cond (eqb i j) 1 0))) seen_tests i l)
     j
     m)
 
 -- each row has an entry for each client
 fresh_row : (i : ℕ) → i < clients → length (get_or fresh_eras i []) ≡ clients
-fresh_row i l = eqb-true _ _ (below_is clients (λ i. eqb (length (get_or fresh_eras i [])) clients) row_tests i l)
+fresh_row i l = eqb-true _ _ (each (λ i. eqb (length (get_or fresh_eras i [])) clients) row_tests i l)
 
 -- every own era is 1
 fresh_own : (c : ℕ) → c < clients → (seen_era fresh.eras c c).0 ≡ 1
@@ -91,9 +86,10 @@ fresh_byte i = same_everywhere all_cells i empty
 -- every cell is empty
 fresh_cell : (c k : ℕ) → cell_at fresh.block.cells c k ≡ None
 fresh_cell c k =
-    by_test (ltb k cells)
+    ⊎_elim
     (λ (t : ltb k cells ≡ true). rw (t, fresh_byte (cell_index c k)))
     (λ (t : ltb k cells ≡ false). rw t)
+    (cases_Bool (ltb k cells))
 
 -- there are no logs
 fresh_log : (c : ℕ) → log_at fresh.block.logs c ≡ None

@@ -3,11 +3,13 @@
 use Prim.Native.Nat.{ℕ, ◌+◌, ◌<◌}
 use mathlib.Core.Bool.{Bool, true, false, cond, ◌&&◌, and-false}
 use mathlib.Core.List.{List, [], ◌∷◌}
+use mathlib.Core.Logic.{⊎_elim}
 use mathlib.Core.Path.{◌≡◌, refl, sym, subst, ◌∙◌}
 use native.Mathlib.Nat.{add-zero}
 use native.Mathlib.Omega.{arith}
 use lib.Dec.{eqb}
 use borrow.Author.Tests.{eq-eqb, ne_eqb}
+use Rattle.std.proofs.lemmas.Bool.{cases_Bool}
 use Rattle.numbers.specs.Sizes.{clients}
 use Rattle.stages.specs.Stages.{won}
 use Rattle.calls.specs.declared.Call.{Call}
@@ -16,7 +18,7 @@ use Rattle.calls.specs.declared.Records.{Records}
 use Rattle.calls.specs.Calls.{stage_of}
 use Rattle.world.specs.World.{World, run_by, run, after}
 use Rattle.history.specs.Ledger.{Line, wins_at, given_to, accepts, entered, ledger_by, ledger, wins, swaps_won_by, swaps_won}
-use Rattle.history.proofs.Updates.{by_test, upd, upd_all}
+use Rattle.history.proofs.Updates.{upd, upd_all}
 use Rattle.history.proofs.Invariant.{Won, Mine, vis_of, vis, Inv}
 use Rattle.history.proofs.Frame.{moved}
 use Rattle.history.proofs.Stores.{hdr_after}
@@ -102,7 +104,7 @@ module _ (w : World) (ghosts : ℕ → Won) (lines : List Line) (good : Good w g
           (sym (add-zero _))
 
   pub next : Next w ghosts lines call
-  next = by_test (accepts w call) next_accepted next_refused
+  next = ⊎_elim next_accepted next_refused (cases_Bool (accepts w call))
 
 -- what a list of calls leads to
 pub record Reached (w : World) (ghosts : ℕ → Won) (lines : List Line) (h : List Call) : Type 0 where

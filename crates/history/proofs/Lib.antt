@@ -1,5 +1,5 @@
 -- Demand 3, in the order in which it is built.
--- `Updates` has one value of a function replaced by another, a test taken apart, and answers told apart.
+-- `Updates` has one value of a function replaced by another.
 -- `Counting` has the lines of a ledger counted, and the pigeonhole over the cells.
 -- `Invariant` says what holds of every world of a history, over functions and not over lists.
 -- `Frame` has that all others keep their words where one client moves.

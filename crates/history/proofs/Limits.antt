@@ -3,6 +3,7 @@
 use Prim.Native.Nat.{ℕ, suc, ◌+◌, ◌/◌, ◌%◌, ◌<◌, ◌≤◌}
 use mathlib.Core.Bool.{Bool, true, false}
 use mathlib.Core.List.{List, [], ◌∷◌}
+use mathlib.Core.Logic.{⊎_elim}
 use mathlib.Core.Path.{◌≡◌, refl}
 use native.Mathlib.Omega.{arith}
 use lib.Dec.{eqb, ltb, leb}
@@ -10,6 +11,9 @@ use lib.ListN.{length, get_or, get_or-eq_default}
 use borrow.Author.Tests.{eq-eqb, ne_eqb, ltb-true, ltb-false, lt-ltb, le-leb}
 use Rattle.std.specs.List.{list_all, enumerate_from}
 use Rattle.std.specs.Prelude.{Option, Some, None}
+use Rattle.std.proofs.lemmas.List.Elements.{All-from_get_or}
+use Rattle.std.proofs.lemmas.List.Sums.{list_all-from_AllPass}
+use Rattle.std.proofs.lemmas.Bool.{cases_Bool, cases_eq, and_from}
 use Rattle.numbers.specs.Sizes.{clients, slots, cells, era_limit, count_limit}
 use Rattle.header.specs.Header.{era_in, count_in, client_in, spare_in}
 use Rattle.block.specs.declared.Entry.{Entry}
@@ -25,7 +29,6 @@ use Rattle.calls.specs.declared.Records.{Records}
 use Rattle.calls.specs.Calls.{nothing}
 use Rattle.world.specs.World.{World, records_at}
 use Rattle.history.specs.Ledger.{Line}
-use Rattle.history.proofs.Updates.{by_test, by_equal, and_both}
 use Rattle.history.proofs.Invariant.{Won, Words, vis, column, Word, CellFits, OpFits, EntryFits, LogFits, OpenFits, KeptFits, At, Rescuing, Clause}
 use Rattle.history.proofs.View.{hdr_of, mine_of}
 use Rattle.history.proofs.Histories.{Good}
@@ -36,9 +39,7 @@ module _ {A : Type 0} (d : A) where
       (test : A → Bool) (xs : List A) →
       ((n : ℕ) → n < length xs → test (get_or xs n d) ≡ true) →
       list_all test xs ≡ true
-  all_pass test [] h = refl
-  all_pass test (x ∷ xs) h =
-      and_both (test x) (list_all test xs) (h 0 (omega arith)) (all_pass test xs (λ n l. h (suc n) (omega arith)))
+  all_pass test xs h = list_all-from_AllPass test xs (All-from_get_or (λ x. test x ≡ true) xs d h)
 
   -- and of a test that sees the place too
   all_placed_pass :
@@ -47,7 +48,7 @@ module _ {A : Type 0} (d : A) where
       list_all test (enumerate_from i xs) ≡ true
   all_placed_pass test [] i h = refl
   all_placed_pass test (x ∷ xs) i h =
-      and_both (test (i, x)) (list_all test (enumerate_from (i + 1) xs)) (h 0 (omega arith) i (omega arith))
+      and_from (test (i, x)) (list_all test (enumerate_from (i + 1) xs)) (h 0 (omega arith) i (omega arith))
       (all_placed_pass test xs (i + 1) (λ n l p e. h (suc n) (omega arith) p (omega arith)))
 
 -- a header of a history is within its limits
@@ -72,7 +73,7 @@ op_within op f = rw (lt-ltb op.cell cells f.cell, lt-ltb op.slot.0 slots f.slot)
 entry_within_lem : (e : Entry) → EntryFits e → entry_within e ≡ true
 unfolding entry_within
 entry_within_lem e f =
-    and_both (operation_within e.operation) _ (op_within e.operation f.operation)
+    and_from (operation_within e.operation) _ (op_within e.operation f.operation)
     (rw (le-leb e.count count_limit f.count, le-leb e.era.0 era_limit f.era))
 
 -- a log that fits is within its limits
@@ -83,9 +84,10 @@ log_within_lem (Some e) f = entry_within_lem e f
 -- the byte of a cell that fits is within its limits
 byte_within : (byte : ℕ) → CellFits (cell_in byte) → cell_within byte ≡ true
 byte_within byte f =
-    by_test (eqb byte empty)
+    ⊎_elim
     (λ (t : eqb byte empty ≡ true). rw t)
     (λ (t : eqb byte empty ≡ false). let l : byte < slots = rw t at f in rw (t, lt-ltb byte slots l))
+    (cases_Bool (eqb byte empty))
 
 module _ (seen : ℕ → ℕ) (few : (c : ℕ) → c < clients → seen c ≤ era_limit) (c : ℕ) (x : Words) (fits : LogFits x.log)
   where
@@ -103,7 +105,7 @@ module _ (seen : ℕ → ℕ) (few : (c : ℕ) → c < clients → seen c ≤ er
     at_within : (stage : Stage) → At seen c x stage → stage_within stage ≡ true
     unfolding stage_within
     at_within stage t =
-        and_both (open_within (open_in stage)) (kept_within (kept_in stage)) (open_within_lem (open_in stage) t.fits)
+        and_from (open_within (open_in stage)) (kept_within (kept_in stage)) (open_within_lem (open_in stage) t.fits)
         (kept_within_lem (kept_in stage) t.kept)
 
     -- the log that a rescuer keeps is within its limits
@@ -116,12 +118,12 @@ module _ (seen : ℕ → ℕ) (few : (c : ℕ) → c < clients → seen c ≤ er
     rescuing_within col RescuerStep.ReadLog r = refl
     rescuing_within col (RescuerStep.Condition1 e) r = in_log e r
     rescuing_within col (RescuerStep.Condition2 e j) r =
-        and_both (entry_within e) _ (in_log e r.0) (rw (lt-ltb j.0 clients r.1, ne_eqb j.0 c r.2))
+        and_from (entry_within e) _ (in_log e r.0) (rw (lt-ltb j.0 clients r.1, ne_eqb j.0 c r.2))
     rescuing_within col (RescuerStep.Cell e) r = in_log e r.0
     rescuing_within col RescuerStep.Era r = refl
     rescuing_within col RescuerStep.Search r = refl
     rescuing_within col (RescuerStep.Release q) r =
-        and_both (releases q.stage) _ r.0 (at_within q.stage r.1)
+        and_from (releases q.stage) _ r.0 (at_within q.stage r.1)
 
     -- the records of a client are within their limits, by its standing
     records_within :
@@ -177,16 +179,17 @@ module _ (w : World) (ghosts : ℕ → Won) (lines : List Line) (good : Good w g
   row_within_lem : (i : ℕ) → i < clients → row_within i (get_or w.eras i []) ≡ true
   unfolding row_within
   row_within_lem i l =
-      and_both (ltb 0 (seen_era w.eras i i).0) (list_all (λ (e : ℕ). leb e era_limit) (get_or w.eras i []))
+      and_from (ltb 0 (seen_era w.eras i i).0) (list_all (λ (e : ℕ). leb e era_limit) (get_or w.eras i []))
       (lt-ltb 0 (seen_era w.eras i i).0 (good.inv.base i l).own_some)
       (all_pass 0 (λ (e : ℕ). leb e era_limit) (get_or w.eras i [])
       (λ n m. le-leb _ era_limit (entry n (let s = good.shape.rows i l in omega arith))))
     where
       entry : (n : ℕ) → n < clients → (seen_era w.eras i n).0 ≤ era_limit
       entry n m =
-          by_equal n i
+          ⊎_elim
           (λ (q : n ≡ i). rw q (let v = few_eras i l in omega arith))
           (λ (o : n ≡ i → ⊥). let p = (good.inv.base i l).past n m o in let v = few_eras n m in omega arith)
+          (cases_eq n i)
 
   -- the matrix is within its limits
   eras_within_lem : eras_within w.eras ≡ true
@@ -201,7 +204,7 @@ module _ (w : World) (ghosts : ℕ → Won) (lines : List Line) (good : Good w g
       (rescue_within c (records_at w.records c).rescuer.step ≡ true)
   unfolding stage_within rescue_within
   private_within c =
-      by_test (ltb c clients)
+      ⊎_elim
       (λ (t : ltb c clients ≡ true).
       let l : c < clients = ltb-true c clients t in
       records_within (vis (mine_of w ghosts)) few_eras c (mine_of w ghosts c).words (good.inv.base c l).log
@@ -211,6 +214,7 @@ module _ (w : World) (ghosts : ℕ → Won) (lines : List Line) (good : Good w g
       let l : length w.records ≤ c = let m = ltb-false c clients t in let s = good.shape.records in omega arith in
       let q : records_at w.records c ≡ nothing = get_or-eq_default w.records nothing l in
       rw q (refl, refl))
+      (cases_Bool (ltb c clients))
 
   -- all that a call is given is within its limits, whichever client it names
   pub all_within :

@@ -3,12 +3,13 @@
 use Prim.Native.Nat.{ℕ, ◌+◌, ◌<◌, ◌≤◌}
 use mathlib.Core.Bool.{true, false}
 use mathlib.Core.List.{List}
-use mathlib.Core.Logic.{inl, inr}
+use mathlib.Core.Logic.{inl, inr, ⊎_elim}
 use mathlib.Core.Path.{◌≡◌, refl, sym, ap, ◌∙◌}
 use native.Mathlib.Omega.{arith}
 use native.Mathlib.Nat.{le_refl}
 use lib.ListN.{length}
 use Rattle.std.specs.Prelude.{Option, Some, None}
+use Rattle.std.proofs.lemmas.Bool.{cases_Bool, cases_eq}
 use Rattle.numbers.specs.Sizes.{clients, slots, cells, era_limit, count_limit}
 use Rattle.header.specs.declared.Fields.{Fields}
 use Rattle.header.specs.Header.{era_in, count_in, client_in}
@@ -20,7 +21,7 @@ use Rattle.stages.specs.Stages.{count_after, entry_of, is_release, swapped, writ
 use Rattle.stages.proofs.ByKind.{written_release, written_entry}
 use Rattle.calls.specs.Calls.{client}
 use Rattle.history.specs.Ledger.{Line, Phase, phased, naming}
-use Rattle.history.proofs.Updates.{by_test, by_equal, upd, upd_same, upd_other, upd_all, upd_twice, upd_there}
+use Rattle.history.proofs.Updates.{upd, upd_same, upd_other, upd_all, upd_twice, upd_there}
 use Rattle.history.proofs.Counting.{slots_at, lines_of, Ranged, Alike, alike, Single, few_naming, slots_phased, lines_phased, naming_phased, ranged_phased, alike_phased}
 use Rattle.history.proofs.Invariant.{none, some, Words, Mine, vis_of, vis, column, Word, CellFits, OpFits, EntryFits, due_by, in_cell, Base, Noted, Inv}
 use Rattle.history.proofs.Frame.{word_up, same_swap, Replaced, Move}
@@ -62,9 +63,10 @@ now {of = of} a b inv =
 -- what an operation writes into its cell names a slot that there is
 pub written_fits : (op : Operation) → OpFits op → CellFits (written op)
 written_fits op f =
-    by_test (is_release op.kind)
+    ⊎_elim
     (λ (t : is_release op.kind ≡ true). rw (written_release op t) tt)
     (λ (t : is_release op.kind ≡ false). rw (written_entry op t) f.slot)
+    (cases_Bool (is_release op.kind))
 
 -- the same lines but for the phases of client a's
 pub record SameLines (a : ℕ) (lines after : List Line) : Type 0 where
@@ -253,9 +255,10 @@ module _ {seen hdr col : ℕ → ℕ} {a : ℕ} {x : Words} {lines : List Line} 
     -- each cell still has at most one line
     singles : (c : ℕ) → c < clients → Single c after
     singles c l =
-        by_equal c a
+        ⊎_elim
         (λ (e : c ≡ a). λ k p. rw (e, due k p) (few_in (upd x.cells op.cell (written op) k)))
         (λ (o : c ≡ a → ⊥). λ k p. rw ((others c o).slots k) (nw.single c l k p))
+        (cases_eq c a)
 
     -- the new header is within its limits, and its era is the own era
     new_word : (later : ℕ → ℕ) → later a ≡ x.row a + 1 → Word later new_header

@@ -3,10 +3,12 @@
 use Prim.Native.Nat.{ℕ, ◌<◌}
 use mathlib.Core.Bool.{Bool, true, false, and-false}
 use mathlib.Core.List.{List, [], ◌∷◌}
+use mathlib.Core.Logic.{⊎_elim}
 use mathlib.Core.Path.{◌≡◌, refl, ap, ◌∙◌}
 use lib.Seq.{set-get_or}
 use borrow.Author.Tests.{ltb-true}
 use Rattle.std.specs.Prelude.{Option, Some, None}
+use Rattle.std.proofs.lemmas.Bool.{cases_Bool, and_parts, both_ways}
 use Rattle.numbers.specs.Sizes.{clients}
 use Rattle.numbers.specs.declared.answers.Answer.{Answer}
 use Rattle.stages.specs.declared.Stage.{Stage}
@@ -20,27 +22,27 @@ use Rattle.calls.specs.Checks.{Check, after_checks, unchanged}
 use Rattle.calls.specs.Calls.{nothing, checks, effect, plain_call, checked_call, stage_of}
 use Rattle.world.specs.World.{World, outcome, after_by, after}
 use Rattle.history.specs.Ledger.{Line, opened_by, by_stage, all_pass, given_to, accepts, performed_by, performed, entered_by, entered}
-use Rattle.history.proofs.Updates.{by_test, and_left, and_right, not_both}
 use Rattle.history.proofs.View.{hdr_of, placed}
 
 -- where all checks pass the outcome is the effect
 all_pass_lem : (cs : List Check) (given : Records) (o : Outcome Records) → all_pass cs ≡ true → after_checks cs given o ≡ o
 all_pass_lem [] given o e = refl
 all_pass_lem (ch ∷ cs) given o e =
-    rw (and_left ch.passes (all_pass cs) e) (all_pass_lem cs given o (and_right ch.passes (all_pass cs) e))
+    rw (and_parts ch.passes (all_pass cs) e).0 (all_pass_lem cs given o (and_parts ch.passes (all_pass cs) e).1)
 
 -- where a check does not pass nothing changes
 some_fails :
     (cs : List Check) (given : Records) (o : Outcome Records) →
     all_pass cs ≡ false →
     (ans : Answer) × (after_checks cs given o ≡ unchanged ans given)
-some_fails [] given o e = not_both true refl e
+some_fails [] given o e = absurd (both_ways true e refl)
 some_fails (ch ∷ cs) given o e =
-    by_test ch.passes
+    ⊎_elim
     (λ (t : ch.passes ≡ true).
     let f : all_pass cs ≡ false = rw t at e in
     let r = some_fails cs given o f in (r.0, rw t r.1))
     (λ (t : ch.passes ≡ false). (ch.refusal, rw t))
+    (cases_Bool ch.passes)
 
 -- where something was under way a call opens nothing
 pub none_opened :
@@ -82,20 +84,21 @@ module _ (w : World) (call : Call) where
   pub accepted_is : accepts w call ≡ true → outcome w call ≡ effect_of w call
   unfolding checked_call plain_call
   accepted_is e =
-      rw (and_left (limits_of w call) (all_pass (checks_of w call)) e)
+      rw (and_parts (limits_of w call) (all_pass (checks_of w call)) e).0
       (all_pass_lem (checks_of w call) (given_to w call) (effect_of w call)
-      (and_right (limits_of w call) (all_pass (checks_of w call)) e))
+      (and_parts (limits_of w call) (all_pass (checks_of w call)) e).1)
 
   -- a refused call leaves everything
   pub refused_is : accepts w call ≡ false → (ans : Answer) × (outcome w call ≡ unchanged ans (given_to w call))
   unfolding checked_call plain_call
   refused_is e =
-      by_test (limits_of w call)
+      ⊎_elim
       (λ (t : limits_of w call ≡ true).
       let f : all_pass (checks_of w call) ≡ false = rw t at e in
       let r = some_fails (checks_of w call) (given_to w call) (effect_of w call) f in
       (r.0, rw t r.1))
       (λ (t : limits_of w call ≡ false). (Answer.BeyondLimits, rw t))
+      (cases_Bool (limits_of w call))
 
   -- the world of an accepted call
   pub after_accepted :
@@ -140,7 +143,7 @@ Passed (ch ∷ cs) = (ch.passes ≡ true) × Passed cs
 -- a list that passes has every check passed
 passed : (cs : List Check) → all_pass cs ≡ true → Passed cs
 passed [] e = tt
-passed (ch ∷ cs) e = (and_left ch.passes (all_pass cs) e, passed cs (and_right ch.passes (all_pass cs) e))
+passed (ch ∷ cs) e = ((and_parts ch.passes (all_pass cs) e).0, passed cs (and_parts ch.passes (all_pass cs) e).1)
 
 -- a list whose every check has passed passes
 pub all_passed : (cs : List Check) → Passed cs → all_pass cs ≡ true
@@ -150,7 +153,7 @@ all_passed (ch ∷ cs) p = rw p.0 (all_passed cs p.1)
 -- the checks of an accepted call have passed
 pub passes_accepted : (w : World) (call : Call) → accepts w call ≡ true → Passed (checks_of w call)
 passes_accepted w call e =
-    passed (checks_of w call) (and_right (limits_of w call) (all_pass (checks_of w call)) e)
+    passed (checks_of w call) (and_parts (limits_of w call) (all_pass (checks_of w call)) e).1
 
 -- the client of an accepted call is one that there is
 pub client_passes : (w : World) (call : Call) → Passed (checks_of w call) → call.client < clients

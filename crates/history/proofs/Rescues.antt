@@ -9,6 +9,7 @@ use native.Mathlib.Omega.{arith}
 use lib.Dec.{eqb, ltb, leb}
 use borrow.Author.Tests.{eq-eqb, eqb-true, eqb-false, ltb-true, ltb-false, leb-true, leb-false}
 use Rattle.std.specs.Prelude.{Option, Some, None}
+use Rattle.std.proofs.lemmas.Bool.{cases_Bool, cases_eq, and_parts, and_from, both_ways}
 use Rattle.numbers.specs.Sizes.{clients, slots, cells, raised}
 use Rattle.numbers.specs.declared.answers.Answer.{Answer}
 use Rattle.header.specs.Header.{era_in, client_in}
@@ -29,7 +30,7 @@ use Rattle.rescue.specs.Search.{lowest_from, lowest_full, found_at}
 use Rattle.rescue.specs.Rescue.{onto, read_log, from_row, onward, swap_stands, first_condition, second_condition, write_cell, raise_era, searched, as_rescue, rescue_by, release_stage}
 use Rattle.calls.specs.Calls.{client}
 use Rattle.history.specs.Ledger.{Line, past_swap, wins_at, by_stage}
-use Rattle.history.proofs.Updates.{by_test, by_equal, and_left, and_right, and_both, not_both, apart, upd_same}
+use Rattle.history.proofs.Updates.{upd_same}
 use Rattle.history.proofs.Counting.{lines_of}
 use Rattle.history.proofs.Invariant.{Won, none, some, Words, won_of, EntryFits, Stands, Witness, Proven, Awaited, Rescuing, Clause}
 use Rattle.history.proofs.Frame.{Move}
@@ -55,7 +56,7 @@ module _ (bytes : List ℕ) (c : ℕ) where
       looks (cell_at bytes c k) refl
       (λ (q : cell_at bytes c k ≡ None).
       finds_from n (k + 1) (omega arith)
-      (λ j l. by_equal j k (λ (p : j ≡ k). rw p q) (λ (o : j ≡ k → ⊥). before j (omega arith))))
+      (λ j l. ⊎_elim (λ (p : j ≡ k). rw p q) (λ (o : j ≡ k → ⊥). before j (omega arith)) (cases_eq j k)))
     where
       looks :
           (held : Option Slot) →
@@ -85,10 +86,6 @@ pub record Helped (seen hdr col : ℕ → ℕ) (a : ℕ) (x : Words) (lines : Li
       (x.won ≡ none) × ((k : ℕ) → k < cells → x.cells k ≡ None) ×
       (s.store ≡ Store.Standing (client a) Standing.Absent)
 
--- 0 is not 100
-goes_on : Answer.Accepted ≡ Answer.Finished → ⊥
-goes_on = apart Answer.Accepted Answer.Finished (λ e. omega arith)
-
 -- a step of an operation that is still under way does not answer 100
 not_over :
     (a : ℕ) (hdr row : ℕ → ℕ) (stage : Stage) →
@@ -96,8 +93,7 @@ not_over :
     (step_by (client a) hdr row stage).answer ≡ Answer.Finished →
     ⊥
 not_over a hdr row =
-    going_answers (λ answer. answer ≡ Answer.Finished → ⊥) (client a) hdr row goes_on
-    (apart Answer.SwapLost Answer.Finished (λ e. omega arith))
+    going_answers (λ answer. answer ≡ Answer.Finished → ⊥) (client a) hdr row (λ e. cc) (λ e. cc)
 
 module _ {seen hdr col : ℕ → ℕ} {a : ℕ} {x : Words} {lines : List Line} (nw : Now seen hdr col a x lines) where
   -- a rescue step that only reads
@@ -111,7 +107,7 @@ module _ {seen hdr col : ℕ → ℕ} {a : ℕ} {x : Words} {lines : List Line} 
         ours = tt;
         move = move_still nw same_lines;
         then = λ c e. (e, r);
-        done = λ e. absurd (goes_on e);
+        done = λ e. cc;
       }
 
   -- where something is won the log has it, and there is evidence
@@ -175,7 +171,7 @@ module _ {seen hdr col : ℕ → ℕ} {a : ℕ} {x : Words} {lines : List Line} 
     -- R4.3: on to client j, or past the last
     from_row_lem : (j : ℕ) → (j ≡ a → ⊥) → Awaited col a (x.row a) j x.won → Rescuing seen col a x (from_row e j)
     from_row_lem j o w =
-        by_test (ltb j clients)
+        ⊎_elim
         (λ (t : ltb j clients ≡ true). rw t (in_log, ltb-true _ _ t, o, w))
         (λ (t : ltb j clients ≡ false).
         rw t
@@ -184,15 +180,17 @@ module _ {seen hdr col : ℕ → ℕ} {a : ℕ} {x : Words} {lines : List Line} 
         let v : Witness col a (x.row a) j = rw q at w in
         let l : clients ≤ j = ltb-false j clients t in
         absurd (let c = v.client in let f = v.later in omega arith))))
+        (cases_Bool (ltb j clients))
 
     -- R4.3: on from client j, a itself passed over
     on_ward : (j : ℕ) → Awaited col a (x.row a) j x.won → Rescuing seen col a x (onward (client a) e j)
     on_ward j w =
-        by_test (eqb j a)
+        ⊎_elim
         (λ (t : eqb j a ≡ true).
         let q : j ≡ a = eqb-true _ _ t in
         rw t (from_row_lem (j + 1) (λ p. omega arith) (passes_over j (λ v p. v.other (p ∙ q)) w)))
         (λ (t : eqb j a ≡ false). rw t (from_row_lem j (eqb-false _ _ t) w))
+        (cases_Bool (eqb j a))
 
     -- the header of the logged slot
     abbrev logged_header : ℕ
@@ -206,31 +204,32 @@ module _ {seen hdr col : ℕ → ℕ} {a : ℕ} {x : Words} {lines : List Line} 
     stood : stands_there ≡ true → x.won ≡ some e.operation
     stood t =
         let c : client_in logged_header ≡ a =
-        eqb-true _ _ (and_left (eqb (client_in logged_header) a) (eqb (era_in logged_header) (x.row a)) t)
+        eqb-true _ _ (and_parts (eqb (client_in logged_header) a) (eqb (era_in logged_header) (x.row a)) t).0
         in
         let f : era_in logged_header ≡ x.row a =
-        eqb-true _ _ (and_right (eqb (client_in logged_header) a) (eqb (era_in logged_header) (x.row a)) t)
+        eqb-true _ _ (and_parts (eqb (client_in logged_header) a) (eqb (era_in logged_header) (x.row a)) t).1
         in
         was_won (era_in logged_header) (omega arith) (rw c at (nw.words e.operation.slot.0).era)
 
     -- a header that stands has condition 1 say yes
     stands_so : (op : Operation) → op ≡ e.operation → Stands hdr a (x.row a) op.slot.0 → stands_there ≡ true
-    stands_so op q s = rw (← q) (and_both _ _ (eq-eqb _ _ s.client) (eq-eqb _ _ s.era))
+    stands_so op q s = rw (← q) (and_from _ _ (eq-eqb _ _ s.client) (eq-eqb _ _ s.era))
 
     -- condition 1 says no: a swap that was won has a witness
     gone : stands_there ≡ false → Awaited col a (x.row a) 0 x.won
     gone t =
         awaits 0
-        (λ op q. ⊎_elim (λ s. not_both _ (stands_so op (same_op op q) s) t) (λ w. w) (log_won op q).evidence)
+        (λ op q. ⊎_elim (λ s. absurd (both_ways _ t (stands_so op (same_op op q) s))) (λ w. w) (log_won op q).evidence)
 
     -- R4.2: condition 1
     first :
         Helped seen hdr col a x lines (first_condition (client a) e (record { 0 = x.row a }) logged_header) lines 0
     unfolding first_condition
     first =
-        by_test stands_there
+        ⊎_elim
         (λ (t : stands_there ≡ true). rw t (reads (RescuerStep.Cell e) (in_log, stood t)))
         (λ (t : stands_there ≡ false). rw t (reads (onward (client a) e 0) (on_ward 0 (gone t))))
+        (cases_Bool stands_there)
 
     -- R4.3: condition 2 at client j
     second :
@@ -242,11 +241,12 @@ module _ {seen hdr col : ℕ → ℕ} {a : ℕ} {x : Words} {lines : List Line} 
         (second_condition (client a) e (record { 0 = j }) (record { 0 = x.row a }) (record { 0 = col j })) lines 0
     unfolding second_condition
     second j l o w =
-        by_test (leb (x.row a) (col j))
+        ⊎_elim
         (λ (t : leb (x.row a) (col j) ≡ true).
         rw t (reads (RescuerStep.Cell e) (in_log, was_won (col j) (leb-true _ _ t) (nw.column j l o))))
         (λ (t : leb (x.row a) (col j) ≡ false).
         rw t (reads (onward (client a) e (j + 1)) (on_ward (j + 1) (passes_over j (unseen t) w))))
+        (cases_Bool (leb (x.row a) (col j)))
       where
         unseen : leb (x.row a) (col j) ≡ false → (v : Witness col a (x.row a) j) → v.at ≡ j → ⊥
         unseen t v p =
@@ -271,7 +271,7 @@ module _ {seen hdr col : ℕ → ℕ} {a : ℕ} {x : Words} {lines : List Line} 
                   fits.operation,
                 ),
               );
-          done = λ q. absurd (goes_on q);
+          done = λ q. cc;
         }
       where
         fits : EntryFits e
@@ -293,7 +293,7 @@ module _ {seen hdr col : ℕ → ℕ} {a : ℕ} {x : Words} {lines : List Line} 
             (era_up (x.row a) (lines_of a lines) (rw won at nw.base.room))
             won there;
         then = λ c q. (q, refl);
-        done = λ q. absurd (goes_on q);
+        done = λ q. cc;
       }
 
   -- R4.6: the search
@@ -325,7 +325,7 @@ module _ {seen hdr col : ℕ → ℕ} {a : ℕ} {x : Words} {lines : List Line} 
       Took seen hdr col a x lines at s after n →
       Helped seen hdr col a x lines (as_rescue s) after n
   release_stage_lem at s after n r over t =
-      by_test (idle s.next.stage)
+      ⊎_elim
       (λ (q : idle s.next.stage ≡ true).
       rw q
       (record {
@@ -333,7 +333,7 @@ module _ {seen hdr col : ℕ → ℕ} {a : ℕ} {x : Words} {lines : List Line} 
         ours = t.ours;
         move = t.move;
         then = λ c e. rw (t.steady Standing.InRescue) (e, over_won q t.then.won_is);
-        done = λ e. absurd (goes_on e);
+        done = λ e. cc;
       }))
       (λ (q : idle s.next.stage ≡ false).
       rw q
@@ -344,6 +344,7 @@ module _ {seen hdr col : ℕ → ℕ} {a : ℕ} {x : Words} {lines : List Line} 
         then = λ c e. rw (t.steady Standing.InRescue) (e, (t.going q ∙ r, t.then));
         done = λ e. absurd (over q e);
       }))
+      (cases_Bool (idle s.next.stage))
     where
       over_won :
           {w : Won} →

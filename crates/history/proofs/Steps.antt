@@ -3,12 +3,14 @@
 use Prim.Native.Nat.{ℕ, ◌+◌, ◌-◌, ◌<◌, ◌≤◌}
 use mathlib.Core.Bool.{true, false, false≢true, cond}
 use mathlib.Core.List.{List, [], ◌∷◌}
+use mathlib.Core.Logic.{⊎_elim}
 use mathlib.Core.Path.{◌≡◌, refl, sym, ap, ◌∙◌}
 use native.Mathlib.Omega.{arith}
 use native.Mathlib.Nat.{le_refl, zero-add}
 use lib.Dec.{ltb}
 use borrow.Author.Tests.{eq-eqb, ne_eqb, eqb-true, ltb-true, ltb-false}
 use Rattle.std.specs.Prelude.{Some, None, Err}
+use Rattle.std.proofs.lemmas.Bool.{cases_Bool, cases_eq}
 use Rattle.numbers.specs.Sizes.{clients, cells, era_stop, era_limit, raised}
 use Rattle.numbers.specs.declared.answers.Answer.{Answer}
 use Rattle.header.specs.Header.{era_in, count_in, client_in}
@@ -23,7 +25,7 @@ use Rattle.stages.proofs.ByKind.{asked_refuses, count_entered, count_struck, wri
 use Rattle.stages.proofs.Cases.{step_cases}
 use Rattle.calls.specs.Calls.{client, looked}
 use Rattle.history.specs.Ledger.{Line, visible, struck, phased, line_of, wins_at, by_stage, naming, shown_by}
-use Rattle.history.proofs.Updates.{by_test, by_equal, upd, upd_same, upd_other, upd_all}
+use Rattle.history.proofs.Updates.{upd, upd_same, upd_other, upd_all}
 use Rattle.history.proofs.Counting.{slots_at, lines_of, few_of, slots_entered, slots_beside, naming_entered, naming_beside, shows_entered, alike_entered, slots_other, shows_other, shows_struck, alike_struck, ranged_struck, slots_struck, naming_struck, lines_struck, slots_phased, shows_beside, shows_visible, shows_none}
 use Rattle.history.proofs.Invariant.{Won, none, some, Words, due_by, in_cell, At, Shown}
 use Rattle.history.proofs.Frame.{Move}
@@ -118,7 +120,7 @@ module _ {seen hdr col : ℕ → ℕ} {a : ℕ} {x : Words} {lines : List Line} 
       lines 0
   unfolding note_stage looked
   note op h t =
-      by_test (ltb (x.row (client_in h)) (era_in h))
+      ⊎_elim
       (λ (q : ltb (x.row (client_in h)) (era_in h) ≡ true).
       let l : x.row (client_in h) < era_in h = ltb-true _ _ q in
       let own : upd x.row (client_in h) (era_in h) a ≡ x.row a =
@@ -150,6 +152,7 @@ module _ {seen hdr col : ℕ → ℕ} {a : ℕ} {x : Words} {lines : List Line} 
       (record { fits = t.fits; kept = t.kept; won_is = t.won_is; more = (t.more.0, t.more.1, ltb-false _ _ q) })
       (λ sh. sh)
       (λ i. refl)))
+      (cases_Bool (ltb (x.row (client_in h)) (era_in h)))
 
   -- R3.3: the log
   log :
@@ -271,12 +274,13 @@ module _ {seen hdr col : ℕ → ℕ} {a : ℕ} {x : Words} {lines : List Line} 
         Shown a x.cells (struck a op lines) (Stage.Cell op h)
     unfolding looked
     shown_struck r sh j b =
-        by_equal j op.cell
+        ⊎_elim
         (λ (q : j ≡ op.cell).
         let t : releasing (Stage.Swap op h) j ≡ true = rw (r, eq-eqb op.cell j (sym q)) in
         let s : shown_by a j lines ≡ Answer.ShowsNothing = rw t at (sh j b) in
         rw t (shows_struck a op a j lines s))
         (λ (o : j ≡ op.cell → ⊥). shows_other a op a j (λ p q. o q) lines ∙ sh j b)
+        (cases_eq j op.cell)
 
     -- an entered line changes nothing that is shown
     shown_entered :
@@ -305,9 +309,10 @@ module _ {seen hdr col : ℕ → ℕ} {a : ℕ} {x : Words} {lines : List Line} 
         Took seen hdr col a x lines (Stage.Swap op h) (swap_won (client a) op h (record { 0 = x.row a }))
         (cond (is_release op.kind) (struck a op lines) (line_of a op ∷ lines)) 1
     swap_won_lem =
-        by_test (is_release op.kind)
+        ⊎_elim
         (λ (r : is_release op.kind ≡ true). rw r (wins_to (strikes r (rw r at t.more.0)) (shown_struck r)))
         (λ (r : is_release op.kind ≡ false). rw r (wins_to (enters r (rw r at t.more.0)) shown_entered))
+        (cases_Bool (is_release op.kind))
 
   -- R3.5: the cell, once the swap is won
   module _ (op : Operation) (h : ℕ) (t : At seen a x (Stage.Cell op h)) where
@@ -323,7 +328,7 @@ module _ {seen hdr col : ℕ → ℕ} {a : ℕ} {x : Words} {lines : List Line} 
         shown_by a op.cell (phased visible a op.cell lines) ≡ looked (Stage.Era op h) (written op) op.cell
     unfolding looked
     shown_cell =
-        by_test (is_release op.kind)
+        ⊎_elim
         (λ (r : is_release op.kind ≡ true).
         rw (r, eq-eqb op.cell op.cell refl)
         (shows_none a op.cell (phased visible a op.cell lines)
@@ -331,6 +336,7 @@ module _ {seen hdr col : ℕ → ℕ} {a : ℕ} {x : Words} {lines : List Line} 
         (λ (r : is_release op.kind ≡ false).
         rw (r, written_entry op r)
         (shows_visible a op.cell op.slot.0 lines (line_here ∙ rw (written_entry op r))))
+        (cases_Bool (is_release op.kind))
 
     -- the other cells show what they showed
     shown_other :
@@ -373,16 +379,18 @@ module _ {seen hdr col : ℕ → ℕ} {a : ℕ} {x : Words} {lines : List Line} 
     shown_idle : (j : ℕ) → looked (Stage.Era op h) (x.cells j) j ≡ looked Stage.Idle (x.cells j) j
     unfolding looked
     shown_idle j =
-        by_test (releasing (Stage.Era op h) j)
+        ⊎_elim
         (λ (r : releasing (Stage.Era op h) j ≡ true). rw (r, emptied r))
         (λ (r : releasing (Stage.Era op h) j ≡ false). rw r)
+        (cases_Bool (releasing (Stage.Era op h) j))
       where
         emptied : releasing (Stage.Era op h) j ≡ true → x.cells j ≡ None
         emptied =
-            by_test (is_release op.kind)
+            ⊎_elim
             (λ (r : is_release op.kind ≡ true).
             rw r (λ q. rw (← (eqb-true op.cell j q)) (t.more ∙ written_release op r)))
             (λ (r : is_release op.kind ≡ false). rw r (λ q. absurd (false≢true q)))
+            (cases_Bool (is_release op.kind))
 
     era : Took seen hdr col a x lines (Stage.Era op h) (era_stage (client a) (record { 0 = x.row a })) lines 0
     unfolding era_stage

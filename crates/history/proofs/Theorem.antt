@@ -3,11 +3,13 @@
 use Prim.Native.Nat.{ℕ, ◌<◌, ◌≤◌}
 use mathlib.Core.Bool.{true, false, not}
 use mathlib.Core.List.{List, [], ◌∷◌}
+use mathlib.Core.Logic.{⊎_elim}
 use mathlib.Core.Path.{◌≡◌, refl, sym, ap, ◌∙◌}
 use native.Mathlib.Omega.{arith}
 use lib.Dec.{ltb}
 use lib.ListN.{length, get_or, get_or-eq_default}
 use borrow.Author.Tests.{lt-ltb, ltb-true, ltb-false}
+use Rattle.std.proofs.lemmas.Bool.{cases_Bool, false_from_ne_true}
 use Rattle.numbers.specs.Sizes.{clients, cells, era_limit}
 use Rattle.numbers.specs.declared.answers.Answer.{Answer}
 use Rattle.block.specs.declared.Standing.{Standing}
@@ -23,7 +25,6 @@ use Rattle.calls.specs.Named.{of, release, look_up}
 use Rattle.world.specs.World.{World, records_at, fresh, outcome, answer, run}
 use Rattle.history.specs.Ledger.{Line, given_to, ledger, shown_by}
 use Rattle.history.specs.Demand3.{standing, era, Holds, Demand3}
-use Rattle.history.proofs.Updates.{by_test}
 use Rattle.history.proofs.Invariant.{Won, none}
 use Rattle.history.proofs.Outcomes.{accepted_is, checks_of, effect_of, Passed}
 use Rattle.history.proofs.Effects.{given, standing_is_lem, clause_of}
@@ -35,8 +36,7 @@ use Rattle.history.proofs.Completion.{accepts_it, no_entries, no_lines_left, com
 
 -- another standing than the one asked for does not pass
 other_standing : (asked found : Standing) → (found ≡ asked → ⊥) → same_standing asked found ≡ false
-other_standing asked found o =
-    by_test (same_standing asked found) (λ e. absurd (o (standing_is_lem asked found e))) (λ e. e)
+other_standing asked found o = false_from_ne_true (same_standing asked found) (λ e. o (standing_is_lem asked found e))
 
 module _ (w : World) (ghosts : ℕ → Won) (lines : List Line) (good : Good w ghosts lines) where
   -- what a call answers whose checks pass
@@ -78,12 +78,13 @@ module _ (w : World) (ghosts : ℕ → Won) (lines : List Line) (good : Good w g
   -- an own era is within its limit, whichever client is asked for
   own_within : (c : ℕ) → era w c ≤ era_limit
   own_within c =
-      by_test (ltb c clients)
+      ⊎_elim
       (λ (t : ltb c clients ≡ true). let f = few_eras w ghosts lines good c (ltb-true c clients t) in omega arith)
       (λ (t : ltb c clients ≡ false).
       let m : length w.eras ≤ c = let s = good.shape.eras in let b = ltb-false c clients t in omega arith in
       let e : get_or w.eras c [] ≡ [] = get_or-eq_default w.eras [] m in
       rw e (omega arith))
+      (cases_Bool (ltb c clients))
 
   -- an act that asks first for a standing is refused in every other
   wrong_standing :

@@ -3,6 +3,7 @@
 use Prim.Native.Nat.{ℕ, ◌<◌}
 use mathlib.Core.Bool.{true, false}
 use mathlib.Core.List.{List, []}
+use mathlib.Core.Logic.{⊎_elim}
 use mathlib.Core.Path.{◌≡◌, refl, ap, fun_ext, ◌∙◌}
 use native.Mathlib.Omega.{arith}
 use lib.Dec.{ltb}
@@ -10,6 +11,7 @@ use lib.ListN.{length, get_or, set, length-set}
 use lib.Seq.{get_or-set_same, get_or-set_other}
 use borrow.Author.Tests.{ltb-true, lt-ltb, ne_eqb}
 use Rattle.std.specs.Prelude.{Option, Some, None}
+use Rattle.std.proofs.lemmas.Bool.{cases_Bool, cases_eq}
 use Rattle.numbers.specs.Sizes.{clients, slots, cells}
 use Rattle.block.specs.declared.Standing.{Standing}
 use Rattle.block.specs.declared.store.Store.{Store}
@@ -17,11 +19,10 @@ use Rattle.block.specs.Block.{empty, all_cells, header_at, cell_in, cell_index, 
 use Rattle.block.specs.Matrix.{seen_era}
 use Rattle.block.specs.Store.{byte_of, cells_with, with_era, headers_after, cells_after, logs_after, standings_after, eras_after, block_after}
 use Rattle.calls.specs.declared.Records.{Records}
-use Rattle.block.specs.declared.Entry.{Entry}
 use Rattle.numbers.specs.declared.Slot.{Slot}
 use Rattle.calls.specs.Calls.{nothing}
 use Rattle.world.specs.World.{World, records_at}
-use Rattle.history.proofs.Updates.{by_test, by_equal, upd, upd_same, upd_other, upd_all}
+use Rattle.history.proofs.Updates.{upd, upd_same, upd_other, upd_all}
 use Rattle.history.proofs.Invariant.{Won, Mine, CellFits}
 use Rattle.history.proofs.Stores.{hdr_after, words_after, standing_after, Ours}
 
@@ -107,7 +108,7 @@ module _ (bytes : List ℕ) (long : length bytes ≡ all_cells) (a k : ℕ) (b :
   -- every other cell is as before
   cell_other : (c j : ℕ) → (c ≡ a → j ≡ k → ⊥) → cell_at (cells_with bytes a k held) c j ≡ cell_at bytes c j
   cell_other c j o =
-      by_test (ltb j cells)
+      ⊎_elim
       (λ (t : ltb j cells ≡ true).
       let p : j < cells = ltb-true j cells t in
       rw (
@@ -117,6 +118,7 @@ module _ (bytes : List ℕ) (long : length bytes ≡ all_cells) (a k : ℕ) (b :
             (λ e. o (omega arith) (omega arith)),
       ))
       (λ (t : ltb j cells ≡ false). rw t)
+      (cases_Bool (ltb j cells))
 
   -- the client's cells are the old ones with one replaced
   put_cell : Put cell_at bytes a (upd (cell_at bytes a) k held) (cells_with bytes a k held)
@@ -146,9 +148,10 @@ module _ (eras : List (List ℕ)) (a j e : ℕ) (m : a < length eras) where
   -- every row is as long as it was
   long_rows : (i : ℕ) → length (get_or (with_era eras a j (record { 0 = e })) i []) ≡ length (get_or eras i [])
   long_rows i =
-      by_equal i a
+      ⊎_elim
       (λ (q : i ≡ a). rw (q, put_row.here) (length-set (get_or eras a []) j e))
       (λ (o : i ≡ a → ⊥). ap length (put_row.there i o))
+      (cases_eq i a)
 
 module _ {w : World} (sh : Shaped w) (ghosts : ℕ → Won) (a : ℕ) (b : a < clients) (r : Records) (g : Won) where
   -- a's words after a store of its own

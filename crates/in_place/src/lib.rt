@@ -17,7 +17,7 @@ use stages::Outcome;
 use standing_calls::{fail, join, leave, rescuer_fails, take_over};
 use step_calls::{rescue_step, step};
 
-// What is asked of a client that there is.
+// What is asked of a client that there is. A match and no closure: what is asked is an enum (R9.7).
 #[tactic(auto, unfolding(calls::specs::Calls::asks, calls::specs::Calls::effect))]
 fn acted<'a>(
     me: Client,

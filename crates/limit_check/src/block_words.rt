@@ -5,7 +5,7 @@ ghost use Rattle.numbers.specs.Sizes.{era_limit};
 ghost use Rattle.limits.specs.Limits.{header_within, cell_within, operation_within, entry_within, log_within, row_within, eras_within};
 
 use block::matrix::{Matrix, Row};
-use block::{EMPTY, Entry, Operation};
+use block::{Entry, Operation, cell_in};
 use header::{spare, unpack};
 use numbers::{CELLS, CLIENTS, COUNT_LIMIT, ERA_LIMIT, Era, SLOTS};
 
@@ -21,7 +21,7 @@ pub(crate) fn header_within(word: u64) -> bool
         && fields.era <= ERA_LIMIT
 }
 
-// Whether every header is.
+// Whether every header is. Headers, cells and logs have a function each: in one expression their proof did not close.
 pub(crate) fn headers_within(headers: &[u64]) -> bool
     ensures { result ≡ list_all header_within headers.now }
 {
@@ -32,7 +32,7 @@ pub(crate) fn headers_within(headers: &[u64]) -> bool
 fn cell_within(byte: u8) -> bool
     ensures { result ≡ cell_within byte }
 {
-    byte == EMPTY || (byte as usize) < SLOTS
+    cell_in(byte).is_none_or(|slot| (slot.0 as usize) < SLOTS)
 }
 
 // Whether every cell is.

@@ -27,7 +27,7 @@ pub enum Answer {
 }
 
 impl Answer {
-    // The answer's number.
+    // The answer's number. Named, and no `From`: `u64::from(answer)` would not say that it is the number of the rules.
     pub fn number(self) -> u64
         ensures { result ≡ number_of self }
     {

@@ -44,7 +44,7 @@ fn open(
     Ok(opened(kind, k, s, by.records))
 }
 
-// 3 lease.
+// 3 lease. Apart from attach, so that each says which kind it opens (edit attach_that_opens_a_lease).
 #[tactic(auto, using(calls::proofs::LetThrough::opens))]
 pub fn lease(by: Caller, cell: u64, slot: u64, cells: &[u8], own: Era) -> Outcome<Records>
     ensures { result ≡ open_of Kind.Lease by.me.0 cell slot by.found cells.now own by.records }

@@ -1,5 +1,5 @@
 // The two conditions that tell a rescuer whether the logged swap was won: condition 1 first, for another host may note
-// and swap between the two.
+// and swap between the two. Client and entry stay two parameters: the rescuer's step holds the entry alone.
 ghost use Rattle.std.specs.Prelude.{◌≡◌, ◌<◌};
 ghost use Rattle.rescue.specs.Rescue.{swap_stands, first_condition, second_condition, from_row, onward};
 

@@ -45,7 +45,7 @@ impl RescuerRecord {
         self.step_lent(c, block.lend(), &eras)
     }
 
-    // The same step of words that are lent.
+    // The same step of words that are lent. A match, and no closure kept in its place: a step's cases hold what it keeps.
     #[tactic(auto, unfolding(crate::specs::Rescue::rescue_of, stages::specs::Stages::step_of))]
     pub fn step_lent<'a>(
         self,
@@ -76,7 +76,7 @@ impl RescuerRecord {
     }
 }
 
-// The outcome of a rescue step.
+// The outcome of a rescue step. Not one function with that of `stages`: each step would have to make its record first.
 fn went(answer: Answer, step: RescuerStep, store: Store) -> Outcome<RescuerRecord>
     ensures { result ≡ went answer step store }
 {

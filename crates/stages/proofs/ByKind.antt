@@ -6,20 +6,12 @@ use mathlib.Core.Logic.{◌⊎◌, inl, inr}
 use mathlib.Core.Path.{◌≡◌, refl, sym}
 use native.Mathlib.Omega.{arith}
 use borrow.Author.Tests.{eqb-true}
-use Rattle.std.specs.Prelude.{Some, None, Result, Err}
+use Rattle.std.specs.Prelude.{Some, None, Err}
 use Rattle.numbers.specs.declared.answers.Answer.{Answer}
 use Rattle.header.specs.Header.{count_in, is_free}
 use Rattle.block.specs.declared.Kind.{Kind}
 use Rattle.block.specs.declared.Operation.{Operation}
 use Rattle.stages.specs.Stages.{asks_nothing, asked_by, count_after, is_release, written}
-
--- a load that asks nothing more refuses nothing
-nothing_refused : (answer : Answer) → asks_nothing ≡ Err answer → ⊥
-nothing_refused answer e = let z : ◌≡◌ {A = ℕ} 0 1 = cc in omega arith
-
--- equal refusals have equal answers
-same_refusal : (a b : Answer) → ◌≡◌ {A = Result (Unit {0}) Answer} (Err a) (Err b) → a ≡ b
-same_refusal a b e = cc
 
 -- an operation that is no release and was not refused raises the count by one
 pub count_entered :
@@ -35,7 +27,7 @@ count_entered Kind.Lease h r a = by_free (is_free h) refl a
         cond free asks_nothing (Err Answer.SlotHeld) ≡ asks_nothing →
         1 ≡ count_in h + 1
     by_free true e q = let z : count_in h ≡ 0 = eqb-true _ _ e in omega arith
-    by_free false e q = absurd (nothing_refused Answer.SlotHeld (sym q))
+    by_free false e q = cc
 count_entered Kind.Attach h r a = refl
 count_entered Kind.Release h r a = absurd (false≢true (sym r))
 
@@ -56,17 +48,17 @@ asked_refuses Kind.Lease h answer e = (refl, inl (by_free (is_free h) e))
         (free : Bool) →
         cond free asks_nothing (Err Answer.SlotHeld) ≡ Err answer →
         answer ≡ Answer.SlotHeld
-    by_free true q = absurd (nothing_refused answer q)
-    by_free false q = sym (same_refusal Answer.SlotHeld answer q)
+    by_free true q = cc
+    by_free false q = cc
 asked_refuses Kind.Attach h answer e = (refl, inr (by_free (is_free h) e))
   where
     by_free :
         (free : Bool) →
         cond free (Err Answer.SlotFree) asks_nothing ≡ Err answer →
         answer ≡ Answer.SlotFree
-    by_free true q = sym (same_refusal Answer.SlotFree answer q)
-    by_free false q = absurd (nothing_refused answer q)
-asked_refuses Kind.Release h answer e = absurd (nothing_refused answer e)
+    by_free true q = cc
+    by_free false q = cc
+asked_refuses Kind.Release h answer e = cc
 
 -- a release empties its cell
 pub written_release : (op : Operation) → is_release op.kind ≡ true → written op ≡ None

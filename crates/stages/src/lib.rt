@@ -41,6 +41,19 @@ pub struct Outcome<R> {
     pub store: Store,
 }
 
+impl<R: Drop> Outcome<R> {
+    // The same outcome, with another record handed back.
+    pub fn handing<S>(self, next: S) -> Outcome<S>
+        ensures { result ≡ record { answer = self.answer; next = next; store = self.store } }
+    {
+        Outcome {
+            answer: self.answer,
+            next,
+            store: self.store,
+        }
+    }
+}
+
 impl ClientRecord {
     // One step of client `me`, given the block and beside it the matrix. With nothing under way it is refused.
     pub fn step(self, me: Client, block: Block, eras: Matrix) -> Outcome<ClientRecord>
@@ -49,7 +62,7 @@ impl ClientRecord {
         self.step_lent(me, &block.headers, &eras)
     }
 
-    // The same step of words that are lent.
+    // The same step of words that are lent. A match and no closure: the stage's cases hold what is kept (R9.2).
     #[tactic(auto, unfolding(crate::specs::Stages::step_of))]
     pub fn step_lent<'a>(
         self,

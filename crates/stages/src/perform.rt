@@ -1,4 +1,5 @@
-// The six stages of an operation in their order, each performed by a function of the words that it reads.
+// The six stages of an operation in their order, each performed by a function of the words that it reads. Client,
+// operation and kept header stay three parameters: a struct of them would be made for one call and taken apart in it.
 ghost use Rattle.std.specs.Prelude.{◌≡◌, ◌<◌};
 ghost use Rattle.stages.specs.Stages.{went, asked_by, load_stage, note_stage, log_stage, swap_stage, cell_stage, era_stage, count_after};
 
@@ -9,7 +10,7 @@ use header::{Fields, is_free, pack, unpack};
 use numbers::answers::Answer;
 use numbers::{Client, Era};
 
-// The outcome of a step.
+// The outcome of a step. Not one function with that of `rescue`: each step would have to make its record first.
 fn went(answer: Answer, stage: Stage, store: Store) -> Outcome<ClientRecord>
     ensures { result ≡ went answer stage store }
 {

@@ -13,7 +13,8 @@ use numbers::answers::Answer;
 use rescue::search::lowest_full;
 use stages::Outcome;
 
-// A client found with the standing `from` gets the standing `to`; what was under way is forgotten.
+// A client found with the standing `from` gets the standing `to`; what was under way is forgotten. The four calls by it
+// stay apart, so that each says its two standings (edits join_of_a_failed_client to rescuer_fails_to_absent).
 fn stand_as(by: Caller, from: Standing, to: Standing) -> Outcome<Records>
     ensures { result ≡ stand_of by.me.0 by.found from to by.records }
 {

@@ -1,7 +1,7 @@
 // Whether a world agrees with its ledger, part by part as demand 3 has it.
 use crate::ledger::Line;
 use crate::scene::Scene;
-use block::EMPTY;
+use block::cell_in;
 use calls::{Act, Call};
 use header::unpack;
 use numbers::answers::Answer;
@@ -70,7 +70,7 @@ fn shows(scene: &Scene, place: usize, line: Option<Line>) -> bool {
 fn look_ups_agree(scene: &Scene) -> bool {
     let cells = scene.block.cells.iter().zip(&scene.ledger.lines);
     cells.enumerate().all(|(place, (byte, line))| {
-        (*byte == EMPTY && line.is_none()) || shows(scene, place, *line)
+        (cell_in(*byte).is_none() && line.is_none()) || shows(scene, place, *line)
     })
 }
 
@@ -82,19 +82,20 @@ fn end_agrees(scene: &Scene, client: u64) -> bool {
     let Some(((cells, lines), due)) = clients.nth(client as usize) else {
         return true;
     };
-    cells.iter().all(|byte| *byte == EMPTY)
+    cells.iter().all(|byte| cell_in(*byte).is_none())
         && lines.iter().all(|line| line.is_none())
         && scene.own_era(client) == *due
 }
 
-// Where a world differs from its ledger after a call; `rescued` is the client whose rescue that call finished.
-pub(crate) fn held_to(scene: &Scene, rescued: Option<u64>) -> Option<Difference> {
-    if !counts_agree(scene) {
-        return Some(Difference::Count);
-    }
-    if !look_ups_agree(scene) {
-        return Some(Difference::LookUp);
-    }
-    let client = rescued?;
-    (!end_agrees(scene, client)).then_some(Difference::RescueEnd)
+// A part of the agreement: the way of differing where it does not hold.
+fn held(agrees: bool, difference: Difference) -> Result<(), Difference> {
+    if agrees { Ok(()) } else { Err(difference) }
+}
+
+// Whether a world agrees with its ledger after a call; `rescued` is the client whose rescue that call finished.
+pub(crate) fn held_to(scene: &Scene, rescued: Option<u64>) -> Result<(), Difference> {
+    held(counts_agree(scene), Difference::Count)?;
+    held(look_ups_agree(scene), Difference::LookUp)?;
+    let ends = rescued.is_none_or(|client| end_agrees(scene, client));
+    held(ends, Difference::RescueEnd)
 }

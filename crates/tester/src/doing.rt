@@ -4,9 +4,10 @@ ghost use Rattle.std.specs.Prelude.{◌≤◌};
 
 use block::Operation;
 use calls::{Act, Call, Records};
+use numbers::Client;
 use numbers::answers::Answer;
 use rescue::RescuerStep;
-use stages::{ClientRecord, Stage};
+use stages::{ClientRecord, Outcome, Stage};
 
 // A step: the client's record that says which stage, or the rescuer's step.
 #[derive(Clone, Copy)]
@@ -53,11 +54,11 @@ impl Doing {
         }
     }
 
-    // The number of the client whose row condition 2 reads; 0 where no row is read.
-    pub(crate) fn row(self) -> u64 {
+    // The client whose row condition 2 reads.
+    pub(crate) fn row(self) -> Option<Client> {
         match self {
-            Doing::Rescuer(RescuerStep::Condition2(_, row)) => row.0 as u64,
-            _ => 0,
+            Doing::Rescuer(RescuerStep::Condition2(_, row)) => Some(row),
+            _ => None,
         }
     }
 
@@ -81,14 +82,22 @@ fn was_performed(answer: Answer) -> bool {
     )
 }
 
-// What a call that was given those records and answered so performed.
-pub(crate) fn performed(call: Call, given: Records, answer: Answer) -> Option<Doing> {
-    if !was_performed(answer) {
-        return None;
-    }
-    match call.act {
-        Act::Step => Some(Doing::Client(given.client)),
-        Act::RescueStep => Some(Doing::Rescuer(given.rescuer.step)),
-        _ => None,
+// A call that was played: the records that it was given, and its outcome.
+#[derive(Clone, Copy)]
+pub(crate) struct Played {
+    pub(crate) call: Call,
+    pub(crate) given: Records,
+    pub(crate) outcome: Outcome<Records>,
+}
+
+impl Played {
+    // What it performed.
+    pub(crate) fn performed(&self) -> Option<Doing> {
+        match self.call.act {
+            Act::Step => Some(Doing::Client(self.given.client)),
+            Act::RescueStep => Some(Doing::Rescuer(self.given.rescuer.step)),
+            _ => None,
+        }
+        .filter(|_| was_performed(self.outcome.answer))
     }
 }

@@ -1,12 +1,12 @@
 // The ledger that a run is held to, kept from the history alone: a won lease or attach swap enters a line, the won
 // release swap strikes it out. It reads no count and no cell. A line stands at 16 times its client plus its cell.
-use crate::doing::{Doing, performed};
+use crate::doing::{Doing, Played};
 use block::store::Store;
 use block::{ALL_CELLS, Kind, Operation};
-use calls::{Act, Call, Records};
+use calls::{Act, Call};
 use numbers::answers::Answer;
 use numbers::{CELLS, CLIENTS, Era, Slot};
-use stages::{ClientRecord, Outcome, Stage};
+use stages::{ClientRecord, Stage};
 
 // How far a line is, with the number that is printed: its swap was won, its cell is written, its release is open.
 #[derive(Clone, Copy, PartialEq, Eq)]
@@ -23,7 +23,8 @@ pub(crate) struct Line {
     pub(crate) phase: Phase,
 }
 
-// The lines of all cells, and for each client that failed the own era that the end of its rescue must leave.
+// The lines of all cells, and for each client that failed the own era that the end of its rescue must leave. 0 and no
+// Option for one that did not: a rescue that a given block ends is held to it, as it always was.
 #[derive(Clone, Copy)]
 pub(crate) struct Ledger {
     pub(crate) lines: [Option<Line>; ALL_CELLS],
@@ -130,18 +131,13 @@ impl Ledger {
         }
     }
 
-    // After a call: of the records that it was given, its outcome and the own era before it.
-    pub(crate) fn keep(
-        &mut self,
-        call: Call,
-        given: Records,
-        outcome: &Outcome<Records>,
-        era: Era,
-    ) {
-        if let Some(doing) = performed(call, given, outcome.answer) {
-            self.keep_step(call.client, doing, outcome.store);
-        } else if outcome.answer == Answer::Accepted {
-            self.keep_opening(call, given.client, era);
+    // After a call that was played, of a client whose own era was that before it.
+    pub(crate) fn keep(&mut self, played: &Played, era: Era) {
+        let call = played.call;
+        if let Some(doing) = played.performed() {
+            self.keep_step(call.client, doing, played.outcome.store);
+        } else if played.outcome.answer == Answer::Accepted {
+            self.keep_opening(call, played.given.client, era);
         }
     }
 }

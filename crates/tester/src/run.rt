@@ -1,6 +1,6 @@
 // A run of the sweep: one placement, played call by call through the proved machine and held to the ledger after each.
 use crate::agree::{Difference, held_to};
-use crate::doing::{Doing, performed};
+use crate::doing::Doing;
 use crate::placement::{Actor, Actors, Progress, Section};
 use crate::scene::Scene;
 use calls::{Act, Call};
@@ -29,12 +29,12 @@ impl Run {
     // Plays a call and holds the world to the ledger: what the call answers, and what it performed. The end of any
     // rescue, also of one in the set-up, is taken for the end of the victim's, as it always was.
     pub(crate) fn play(&mut self, call: Call, victim: u64) -> (Answer, Option<Doing>) {
-        let given = self.scene.given_to(call.client);
-        let answer = self.scene.play(call).answer;
+        let played = self.scene.play(call);
+        let answer = played.outcome.answer;
         let ended = call.act == Act::RescueStep && answer == Answer::Finished;
-        self.differs = held_to(&self.scene, ended.then_some(victim));
+        self.differs = held_to(&self.scene, ended.then_some(victim)).err();
         self.calls = self.calls.saturating_add(1);
-        (answer, performed(call, given, answer))
+        (answer, played.performed())
     }
 
     // Who may make the next call; nobody where the run differs from its ledger.

@@ -1,5 +1,6 @@
 // The world of a run, with its ledger. Each call goes through the proved machine; no history from a fresh block is
 // beyond its limits, so the plain call is the whole one.
+use crate::doing::Played;
 use crate::ledger::Ledger;
 use block::matrix::{Matrix, eras_from, fresh_eras, own_era};
 use block::store::put_era;
@@ -45,9 +46,9 @@ impl Scene {
         records_at(&self.records, client)
     }
 
-    // A client's own era; 0 of a client that there is none.
+    // A client's own era; of a client that there is none 0, as the matrix is read past its last row.
     pub(crate) fn own_era(&self, client: u64) -> Era {
-        u8::try_from(client).map_or(Era(0), |client| own_era(&self.eras, Client(client)))
+        Client::try_from(client).map_or(Era(0), |client| own_era(&self.eras, client))
     }
 
     // What a call answers, hands back and writes.
@@ -61,14 +62,19 @@ impl Scene {
     }
 
     // Plays a call: the world and its ledger after it.
-    pub(crate) fn play(&mut self, call: Call) -> Outcome<Records> {
-        let outcome = self.outcome(call);
+    pub(crate) fn play(&mut self, call: Call) -> Played {
         let given = self.given_to(call.client);
+        let outcome = self.outcome(call);
+        let played = Played {
+            call,
+            given,
+            outcome,
+        };
         let era = self.own_era(call.client);
-        self.ledger.keep(call, given, &outcome, era);
+        self.ledger.keep(&played, era);
         self.block.put(outcome.store);
         put_era(outcome.store, &mut self.eras);
         self.records = records_after(self.records, call.client, outcome.next);
-        outcome
+        played
     }
 }

@@ -47,6 +47,7 @@ fn swept(rt: &(impl Eprint + AllocGlobal), section: &Section) -> io::Result<Sum>
     let mut choices = Choices::new(rt.alloc());
     let mut run = set_up_run(section.plan, |_| Ok(()))?;
     let mut pick = 0;
+    // A bound, since `rt.forever()` would be a `Wait`.
     for _ in 0..u64::MAX {
         let actors = run.actors(section);
         if let Some(actor) = actors.at(pick) {
@@ -149,10 +150,13 @@ fn sweep_section(rt: &(impl Print + Eprint + AllocGlobal), section: &Section) ->
     Ok(())
 }
 
-// The slot of an opening that is accepted; of a release, the slot in its cell. Another call has slot 0.
+// The slot of an opening that is accepted; of a release, the slot in its cell. Another call has slot 0 and no Option: that
+// slot's count is what a sweep of it has always told.
 fn slot_of(call: Call, scene: &Scene) -> Slot {
     let cell = match call.act {
-        Act::Lease(_, slot) | Act::Attach(_, slot) => return Slot((slot % 256) as u8),
+        Act::Lease(_, slot) | Act::Attach(_, slot) => {
+            return Slot::try_from(slot).unwrap_or(Slot(0));
+        }
         Act::Release(cell) => cell,
         _ => return Slot(0),
     };
@@ -196,30 +200,23 @@ fn sweep_sections(
     Ok(())
 }
 
-// Whether a call is accepted in a world; where it is not, the line that says so: 1 the victim's or 2 the other host's
-// opening, and the answer.
-fn accepted(rt: &impl Print, scene: &Scene, whose: u64, call: Call) -> io::Result<bool> {
+// What a call is refused with in a world.
+fn refusal(scene: &Scene, call: Call) -> Option<Answer> {
     let answer = scene.answer(call);
-    if answer == Answer::Accepted {
-        return Ok(true);
-    }
-    println!(rt; "refused{}", Numbers(&[whose, answer.number()]))?;
-    Ok(false)
+    (answer != Answer::Accepted).then_some(answer)
 }
 
-// Sweeps a plan, where the world after the set-up accepts both openings.
+// Sweeps a plan, where the world after the set-up accepts both openings; else a line says whose is refused, the victim's
+// (1) or the other host's (2), and with what.
 fn sweep_plan(rt: &(impl Print + Eprint + AllocGlobal), plan: &Plan) -> io::Result<()> {
     let mut scene = plan.begin;
     for call in &plan.set_up {
         scene.play(*call);
     }
-    if !accepted(rt, &scene, 1, plan.opening)? {
-        return Ok(());
-    }
-    if let Some(other) = plan.other
-        && !accepted(rt, &scene, 2, other)?
-    {
-        return Ok(());
+    for (whose, opening) in [(1, Some(plan.opening)), (2, plan.other)] {
+        if let Some(answer) = opening.and_then(|call| refusal(&scene, call)) {
+            return println!(rt; "refused{}", Numbers(&[whose, answer.number()]));
+        }
     }
     sweep_sections(rt, plan, slot_of(plan.opening, &scene))
 }

@@ -2,19 +2,18 @@
 // what it answered; after the last, the slots, the ledger, the clients and the cells. The views put them into words.
 use crate::acts::Record;
 use crate::agree::tally;
-use crate::doing::{Doing, operation_numbers, performed};
+use crate::doing::{Doing, Played, operation_numbers};
 use crate::print::Numbers;
 use crate::scene::Scene;
 use crate::words::{header_value, word_of};
 use block::store::Store;
-use block::{EMPTY, Operation, Standing, standing_at};
-use calls::{Act, Call, Records};
+use block::{Operation, Standing, cell_in, standing_at};
+use calls::{Act, Records};
 use decode::decode;
 use input::read_full;
 use numbers::answers::Answer;
 use numbers::{CELLS, Client, Era};
 use rescue::RescuerStep;
-use stages::Outcome;
 use std::io;
 use std::io::Read;
 
@@ -28,40 +27,34 @@ fn print_call(rt: &impl Print, place: u64, record: Record, answer: Answer) -> io
     print!(rt; "call{}", Numbers(&numbers))
 }
 
-// What comes next for the client or its rescuer.
-fn next_step(call: Call, outcome: &Outcome<Records>) -> u64 {
-    let next = match (outcome.answer, call.act) {
-        (Answer::Finished, _) => return 0,
-        (_, Act::RescueStep) => Doing::Rescuer(outcome.next.rescuer.step),
-        _ => Doing::Client(outcome.next.client),
-    };
-    next.number()
+// What comes next for the client or its rescuer; nothing where the call finished it.
+fn next_step(played: &Played) -> Option<Doing> {
+    let next = played.outcome.next;
+    match (played.outcome.answer, played.call.act) {
+        (Answer::Finished, _) => None,
+        (_, Act::RescueStep) => Some(Doing::Rescuer(next.rescuer.step)),
+        _ => Some(Doing::Client(next.client)),
+    }
 }
 
 // The operation that a call performed a step of; of a search, the release that it opened.
-fn told_operation(doing: Doing, outcome: &Outcome<Records>) -> Option<Operation> {
-    match doing {
+fn told_operation(played: &Played) -> Option<Operation> {
+    match played.performed()? {
         Doing::Rescuer(RescuerStep::Search) => {
-            Doing::Rescuer(outcome.next.rescuer.step).operation()
+            Doing::Rescuer(played.outcome.next.rescuer.step).operation()
         }
-        _ => doing.operation(),
+        doing => doing.operation(),
     }
 }
 
 // What a call performed, what comes next, the row that was read, and the operation that it is a step of.
-fn print_doing(
-    rt: &impl Print,
-    call: Call,
-    given: Records,
-    outcome: &Outcome<Records>,
-) -> io::Result<()> {
-    let doing = performed(call, given, outcome.answer);
-    let operation = doing.and_then(|doing| told_operation(doing, outcome));
-    let [kind, cell, slot] = operation_numbers(operation);
+fn print_doing(rt: &impl Print, played: &Played) -> io::Result<()> {
+    let doing = played.performed();
+    let [kind, cell, slot] = operation_numbers(told_operation(played));
     let step = doing.map_or(0, Doing::number);
-    let row = doing.map_or(0, Doing::row);
-    let numbers = [step, next_step(call, outcome), row, kind, cell, slot];
-    print!(rt; "{}", Numbers(&numbers))
+    let next = next_step(played).map_or(0, Doing::number);
+    let row = doing.and_then(Doing::row).map_or(0, |row| row.0 as u64);
+    print!(rt; "{}", Numbers(&[step, next, row, kind, cell, slot]))
 }
 
 // The word that a store writes, with its old and its new value.
@@ -148,7 +141,7 @@ fn print_end(rt: &impl Print, scene: &Scene) -> io::Result<()> {
     })?;
     print_clients(rt, scene)?;
     print_entries(rt, "cell", &scene.block.cells, |byte| {
-        (*byte != EMPTY).then_some((u64::from(*byte), 0))
+        cell_in(*byte).map(|slot| (u64::from(slot.0), 0))
     })
 }
 
@@ -159,10 +152,10 @@ fn tell(rt: &impl Print, place: u64, record: Record, scene: &mut Scene) -> io::R
         return println!(rt; "{}", Numbers(&NOTHING));
     };
     let before = *scene;
-    let outcome = scene.play(call);
-    print_call(rt, place, record, outcome.answer)?;
-    print_doing(rt, call, before.given_to(call.client), &outcome)?;
-    print_store(rt, outcome.store, &before, scene)?;
+    let played = scene.play(call);
+    print_call(rt, place, record, played.outcome.answer)?;
+    print_doing(rt, &played)?;
+    print_store(rt, played.outcome.store, &before, scene)?;
     println!(rt)
 }
 
@@ -179,6 +172,7 @@ pub(crate) fn watch_given(rt: &impl Print, input: &mut impl Read) -> io::Result<
 pub(crate) fn watch(rt: &impl Print, input: &mut impl Read, begin: Scene) -> io::Result<()> {
     let mut scene = begin;
     let mut record = [0u8; 4];
+    // A bound, since `rt.forever()` would be a `Wait`.
     for place in 1..=u64::MAX {
         match read_full(&mut *input, &mut record)? {
             0 => break,

@@ -2,7 +2,7 @@
 #![tactic(auto)]
 
 ghost use Rattle.std.specs.Prelude.{◌≡◌, ◌+◌, ◌≤◌, leb, length};
-ghost use Rattle.text.specs.Page.{Adds};
+ghost use Rattle.text.specs.Page.{Adds, HasRoom};
 ghost use Rattle.text.specs.Text.{decimal, line, slot_line, number_size, line_size, slot_line_size, PutIn};
 
 use itoa::write_digits;
@@ -31,7 +31,7 @@ impl Page<'_> {
 
     // Adds some text.
     fn put(&mut self, text: &[u8])
-        requires { self.old.end + length text.now ≤ length self.old.bytes.now }
+        requires { HasRoom self.old (length text.now) }
         ensures { Adds self.old text.now self.new }
     {
         let end = self.end + text.len();
@@ -43,7 +43,7 @@ impl Page<'_> {
     // Not by `write!`: that it wrote all did not close, since its contract does not say that it ends without an error.
     #[tactic(auto, using(crate::proofs::Widths::log_length))]
     fn put_decimal(&mut self, n: u64)
-        requires { self.old.end + number_size ≤ length self.old.bytes.now }
+        requires { HasRoom self.old number_size }
         ensures adds { Adds self.old (decimal n) self.new }
         ensures short { self.new.end ≤ self.old.end + number_size }
     {
@@ -54,7 +54,7 @@ impl Page<'_> {
 
     // Adds two numbers with a space between them and a newline.
     fn put_numbers(&mut self, first: u64, second: u64)
-        requires { self.old.end + line_size ≤ length self.old.bytes.now }
+        requires { HasRoom self.old line_size }
         ensures { Adds self.old (line first second) self.new }
     {
         self.put_decimal(first);
@@ -66,7 +66,7 @@ impl Page<'_> {
     // Adds the word "slot", a space and two numbers.
     #[tactic(auto, using(crate::proofs::Filling::adds_then, crate::proofs::Widths::line_most), unfolding(crate::specs::Text::slot_line))]
     fn put_slot(&mut self, slot: u64, count: u64)
-        requires { self.old.end + slot_line_size ≤ length self.old.bytes.now }
+        requires { HasRoom self.old slot_line_size }
         ensures { Adds self.old (slot_line slot count) self.new }
     {
         self.put(b"slot ");
@@ -74,7 +74,8 @@ impl Page<'_> {
     }
 }
 
-// A record's line, at `at` of the output, where the longest one has room. Answers where it ends.
+// A record's line, at `at` of the output, where the longest one has room. Answers where it ends. Output and place stay
+// two parameters: `PutIn` says what the caller's slice holds from there.
 pub fn put_line(out: &mut [u8], at: usize, place: u64, number: u64) -> usize
     ensures { PutIn line_size out.old at (line place number) out.new result }
 {

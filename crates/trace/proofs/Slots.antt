@@ -1,19 +1,20 @@
 -- The lines of the slots, one after the other. Assumes nothing.
 use Prim.Native.Nat.{ℕ, suc, ◌+◌, ◌*◌, ◌≤◌, ◌<◌}
 use mathlib.Core.List.{List, [], ◌∷◌, ◌++◌, append_assoc, append-nil}
+use mathlib.Core.Logic.{⊎_elim}
 use mathlib.Core.Path.{◌≡◌, refl, sym, ap, ◌∙◌}
 use native.Mathlib.Omega.{arith}
 use native.Mathlib.Numerals.{add-one}
 use lib.ListN.{length, take, get_or, length-append}
-use lib.Seq.{take_all, take-suc, length-take-le}
+use lib.Seq.{take-suc, length-take-le}
 use lib.Dec.{eqb}
-use borrow.Author.Tests.{eq-eqb, ne_eqb, le-leb, lt-leb}
+use borrow.Author.Tests.{eq-eqb, ne_eqb, le-leb}
+use Rattle.std.proofs.lemmas.Bool.{cases_Bool}
 use Rattle.header.specs.Header.{count_in}
 use Rattle.text.specs.Text.{line, slot_line, line_size, slot_line_size, Put}
-use Rattle.text.proofs.Filling.{filled_none, put_none, put_then, put_length}
+use Rattle.text.proofs.Filling.{put_none, put_then, put_length}
 use Rattle.text.proofs.Widths.{line_most, slot_line_most}
 use Rattle.trace.specs.Play.{cut_text, slot_text, slots_text, Ending}
-use Rattle.history.proofs.Updates.{by_test}
 
 -- the lines of some slots, and of those after them
 slots_then : (s : ℕ) (x y : List ℕ) → slots_text s (x ++ y) ≡ slots_text s x ++ slots_text (s + length x) y
@@ -38,9 +39,10 @@ slots_more headers s h =
 -- a slot's line is no longer than the longest, and so those of many
 slot_most : (s header : ℕ) → length (slot_text s header) ≤ slot_line_size
 slot_most s header =
-    by_test (eqb (count_in header) 0)
+    ⊎_elim
     (λ t. rw t (omega arith))
     (λ t. rw t (slot_line_most s (count_in header)))
+    (cases_Bool (eqb (count_in header) 0))
 
 pub slots_most : (s : ℕ) (headers : List ℕ) → length (slots_text s headers) ≤ slot_line_size * length headers
 unfolding slots_text
@@ -86,14 +88,6 @@ module _ {headers before : List ℕ} {at : ℕ} where
         size = put_length put (omega arith) ∙ l;
       }
 
-  -- all are
-  pub all_below :
-      {out : List ℕ} {s end : ℕ} →
-      Below headers before at out s end →
-      length headers ≤ s →
-      Put before at (slots_text 0 headers) out end
-  all_below {out} {s} {end} p h = rw (take_all s headers h) at p.put
-
 -- R5.3: with no bytes left there is no cut record
 pub no_cut : (n : ℕ) (rest : List ℕ) → length rest ≡ 0 → cut_text n rest ≡ []
 no_cut n [] h = refl
@@ -129,12 +123,3 @@ ending {headers} {rest} {out} {one} {two} {n} {mid} {end} p q room =
     let put = put_then p q (omega arith) in
     let t = le-leb (0 + (line_size + slot_line_size * length headers)) (length out) (omega arith) in
     record { result = rw t (let g = put.ends in omega arith); text = rw t put.fills; end_within = omega arith }
-
--- and where there is none
-pub no_ending :
-    {headers rest out : List ℕ} {n : ℕ} →
-    length out < line_size + slot_line_size * length headers →
-    Ending headers n rest out 0 out
-no_ending {headers} {rest} {out} {n} short =
-    let t = lt-leb (0 + (line_size + slot_line_size * length headers)) (length out) (omega arith) in
-    record { result = rw t refl; text = rw t (sym (filled_none out 0)); end_within = omega arith }

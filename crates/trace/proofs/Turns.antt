@@ -1,12 +1,14 @@
 -- The player's loop: what holds when a turn has played k records, and one record more. Assumes nothing.
 use Prim.Native.Nat.{ℕ, ◌+◌, ◌-◌, ◌*◌, ◌/◌, ◌≤◌}
 use mathlib.Core.List.{List, [], ◌∷◌, ◌++◌, append-nil}
+use mathlib.Core.Logic.{⊎_elim}
 use mathlib.Core.Path.{◌≡◌, refl, sym, ap, ◌∙◌}
 use native.Mathlib.Omega.{arith}
 use borrow.Author.Tests.{ltb-true, ltb-false}
 use lib.Dec.{ltb}
 use lib.ListN.{length, drop}
 use Rattle.std.specs.Prelude.{Option}
+use Rattle.std.proofs.lemmas.Bool.{cases_Bool}
 use Rattle.numbers.specs.Answers.{number_of}
 use Rattle.numbers.specs.declared.answers.Answer.{Answer}
 use Rattle.calls.specs.declared.Call.{Call}
@@ -17,7 +19,6 @@ use Rattle.text.proofs.Widths.{line_most}
 use Rattle.decode.specs.Decode.{record_size, first_asked}
 use Rattle.trace.specs.Play.{asked, plainly, told, next, text_by, world_by, last_place, turn_count, Turn}
 use Rattle.trace.proofs.Playing.{asked_length, asked_more, world_then, text_then, text_most}
-use Rattle.history.proofs.Updates.{by_test}
 
 -- as many records are read, have room and have a place
 pub record Counted (n size room count : ℕ) : Type 0 where
@@ -28,17 +29,19 @@ pub record Counted (n size room count : ℕ) : Type 0 where
 pub counted : (n size room : ℕ) → n ≤ last_place → Counted n size room (turn_count n size room)
 unfolding turn_count
 counted n size room h =
-    by_test (ltb (last_place - n) size)
+    ⊎_elim
     (λ t. rw t (record { read = omega arith; fits = omega arith; place = omega arith }))
     (λ t.
     let l = ltb-false (last_place - n) size t in
-    by_test (ltb (size / record_size) (room / line_size))
+    ⊎_elim
     (λ s.
     let r = ltb-true (size / record_size) (room / line_size) s in
     rw (t, s) (record { read = omega arith; fits = omega arith; place = omega arith }))
     (λ s.
     let r = ltb-false (size / record_size) (room / line_size) s in
-    rw (t, s) (record { read = omega arith; fits = omega arith; place = omega arith })))
+    rw (t, s) (record { read = omega arith; fits = omega arith; place = omega arith }))
+    (cases_Bool (ltb (size / record_size) (room / line_size))))
+    (cases_Bool (ltb (last_place - n) size))
 
 -- a turn has played k records: `out` holds their text up to `end`, w is the world after them
 pub record Going (start : World) (place : ℕ) (input before : List ℕ) (w : World) (out : List ℕ) (k end : ℕ) : Type 0 where

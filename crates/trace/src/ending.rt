@@ -1,4 +1,5 @@
-// What stands after the records' lines: the line of a cut record, and a line for each slot in use.
+// What stands after the records' lines: the line of a cut record, and a line for each slot in use. The output and its
+// end go apart, as in `play_end`, whose clause `Ending` says what the caller's slice holds.
 ghost use Rattle.std.specs.Prelude.{◌+◌, ◌*◌, ◌≤◌, length};
 ghost use Rattle.text.specs.Text.{line_size, slot_line_size, Put};
 ghost use Rattle.trace.specs.Play.{cut_text, slot_text, slots_text};
@@ -31,7 +32,7 @@ fn put_slot(out: &mut [u8], at: usize, slot: usize, header: u64) -> usize
 }
 
 // The lines of the slots in use, in their order. Answers where they end.
-#[tactic(auto, using(crate::proofs::Slots::below_most, crate::proofs::Slots::all_below))]
+#[tactic(auto, using(crate::proofs::Slots::below_most))]
 pub(crate) fn put_slots<'a>(out: &'a mut [u8], at: usize, headers: &'a [u64]) -> usize
     requires { at + slot_line_size * length headers.now ≤ length out.old }
     ensures { Put out.old at (slots_text 0 headers.now) out.new result }

@@ -17,7 +17,8 @@ use decode::RECORD;
 use numbers::CLIENTS;
 use text::{LINE, SLOT_LINE};
 
-// What a turn leaves: the block and the records, how many bytes it read, where its text ends, and the next record's place.
+// What a turn leaves: the block and the records, how many bytes it read, where its text ends, and the next record's
+// place. Numbers and no slices: the clause `Turn` says of the caller's slices what they hold up to there.
 #[derive(Clone, Copy)]
 pub struct Played {
     pub block: Block,
@@ -41,8 +42,7 @@ fn turn_count<'a>(place: u64, input: &'a [u8], out: &'a [u8]) -> usize
 
 // Plays the whole records of the input, from the block, the matrix and the records given, as many as the output has room
 // for the longest line each. `place` is the place of the first; where the places might run out of their 64 bits, none is
-// played. The words stand in locals, and each store is put in place. A client that there is none is refused, so its
-// records may be anyone's.
+// played. The words stand in locals, and each store is put in place.
 pub fn play_records<'a>(
     input: &'a [u8],
     out: &'a mut [u8],
@@ -73,7 +73,7 @@ pub fn play_records<'a>(
 
 // What is printed after the last whole record: the line of a cut one, where bytes of it are left, and the slots in
 // use. It is written where the output has room for the longest that it could be. Answers how many bytes it is.
-#[tactic(auto, using(crate::proofs::Slots::cut_most, crate::proofs::Slots::no_ending))]
+#[tactic(auto, using(crate::proofs::Slots::cut_most))]
 pub fn play_end<'a>(rest: &'a [u8], place: u64, headers: &'a [u64], out: &'a mut [u8]) -> usize
     ensures { Ending headers.now place rest.now out.old result out.new }
 {

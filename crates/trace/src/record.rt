@@ -19,11 +19,13 @@ pub(crate) fn asked_at(input: &[u8], k: usize) -> Option<Call>
     requires { k * record_size + record_size ≤ length input.now }
     ensures { result ≡ first_asked (drop (k * record_size) input.now) }
 {
-    let at = k * RECORD;
-    decode([input[at], input[at + 1], input[at + 2], input[at + 3]])
+    match &input[k * RECORD..] {
+        [call, client, cell, slot, ..] => decode([*call, *client, *cell, *slot]),
+        _ => None,
+    }
 }
 
-// Plays what a record asks for, in place: 12 where it asks for no call.
+// Plays what a record asks for, in place: 12 where it asks for no call, by the let .. else that R9.7 names.
 #[tactic(auto, unfolding(world::specs::World::after_by))]
 pub(crate) fn played<'a>(
     asked: Option<Call>,

@@ -1,5 +1,5 @@
 -- One record more is played: its line after the lines of those before it, and the world after it.
-use Rattle.std.proofs.Common.{arith, length, sym}
+use Rattle.std.proofs.Common.{arith, length}
 use Rattle.trace.proofs.Turns.{counted, begins, goes}
 use Rattle.trace.proofs.play_records.Goals as goal
 
@@ -8,7 +8,7 @@ loop-k-init c =
     let count = c.turn_count-count.ensures in
     record {
       going = begins;
-      counted = rw (sym count) at (counted c.args.place (length c.args.input.now) (length c.args.out.now) (omega arith));
+      counted = rw count (counted c.args.place (length c.args.input.now) (length c.args.out.now) (omega arith));
       count = count;
     }
 

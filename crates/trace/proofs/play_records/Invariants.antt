@@ -1,6 +1,6 @@
 -- A turn has played k records of those that it counts: its block, matrix and records, as a world, are the world after
 -- them, and the output holds their text.
-use Rattle.std.proofs.Common.{◌≡◌, ◌-◌, ◌≤◌, length}
+use Rattle.std.proofs.Common.{◌≡◌, length}
 use Rattle.trace.specs.Play.{turn_count, world_of}
 use Rattle.trace.proofs.Turns.{Counted, Going}
 use Rattle.trace.proofs.play_records.Given as goal

@@ -1,5 +1,4 @@
 -- The lines of the slots below `slot` are put.
-use Rattle.std.proofs.Common.{◌-◌, ◌≤◌, length}
 use Rattle.trace.proofs.Slots.{Below}
 use Rattle.trace.proofs.ending.put_slots.Given as goal
 
