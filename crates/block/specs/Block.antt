@@ -1,10 +1,10 @@
 -- The shared words and how each is read (R1.2, R1.5).
 use Rattle.std.specs.Prelude.{ℕ, ◌+◌, ◌*◌, cond, List, ltb, eqb, get_or, replicate, Option, Some, None}
+use Rattle.numbers.specs.declared.Slot.{Slot}
 use Rattle.numbers.specs.Sizes.{clients, slots, cells}
 use Rattle.block.specs.declared.Block.{Block}
 use Rattle.block.specs.declared.Standing.{Standing}
 use Rattle.block.specs.declared.Entry.{Entry}
-use Rattle.numbers.specs.declared.Slot.{Slot}
 
 -- R1.2: the byte of an empty cell, which names no slot
 abbrev pub empty : ℕ

@@ -1,11 +1,11 @@
 -- The one word that a step or a call writes (R3.0, R2.16), and each of the shared words after it.
 use Rattle.std.specs.Prelude.{ℕ, cond, List, [], ltb, get_or, set, Option, Some, None}
 use Rattle.numbers.specs.declared.Era.{Era}
+use Rattle.numbers.specs.declared.Slot.{Slot}
 use Rattle.numbers.specs.Sizes.{cells}
 use Rattle.block.specs.declared.Block.{Block}
 use Rattle.block.specs.declared.store.Store.{Store}
 use Rattle.block.specs.declared.Entry.{Entry}
-use Rattle.numbers.specs.declared.Slot.{Slot}
 use Rattle.block.specs.declared.Standing.{Standing}
 use Rattle.block.specs.Block.{empty, cell_index}
 

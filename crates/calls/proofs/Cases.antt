@@ -7,11 +7,11 @@ use Rattle.numbers.specs.declared.answers.Answer.{Answer}
 use Rattle.block.specs.declared.Block.{Block}
 use Rattle.block.specs.declared.store.Store.{Store}
 use Rattle.block.specs.Block.{log_at}
+use Rattle.stages.specs.declared.Outcome.{Outcome}
 use Rattle.stages.specs.Stages.{step_of}
 use Rattle.rescue.specs.Rescue.{rescue_of}
 use Rattle.calls.specs.declared.Act.{Act}
 use Rattle.calls.specs.declared.Records.{Records}
-use Rattle.stages.specs.declared.Outcome.{Outcome}
 use Rattle.calls.specs.Checks.{Check, unchanged, refused, after_checks}
 use Rattle.calls.specs.Calls.{client, accepted, of_client, of_rescuer, shows_cell, asks, effect, checks, plain_call}
 

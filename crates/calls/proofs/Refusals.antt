@@ -10,12 +10,15 @@ use Rattle.std.specs.Prelude.{Option, Some, None}
 use Rattle.std.proofs.lemmas.Bool.{cond_both}
 use Rattle.numbers.specs.declared.answers.Answer.{Answer}
 use Rattle.numbers.specs.declared.Client.{Client}
+use Rattle.numbers.specs.declared.Slot.{Slot}
 use Rattle.block.specs.declared.Block.{Block}
 use Rattle.block.specs.declared.store.Store.{Store}
+use Rattle.block.specs.declared.Entry.{Entry}
 use Rattle.block.specs.Block.{cell_at, header_at, log_at}
 use Rattle.block.specs.Matrix.{seen_era}
 use Rattle.block.specs.Store.{block_after, eras_after}
 use Rattle.stages.specs.declared.Stage.{Stage}
+use Rattle.stages.specs.declared.Outcome.{Outcome}
 use Rattle.stages.specs.Stages.{step_of, note_stage, log_stage, cell_stage, era_stage, closed, releasing}
 use Rattle.stages.proofs.ByKind.{asked_refuses}
 use Rattle.stages.proofs.Cases.{step_cases}
@@ -26,9 +29,6 @@ use Rattle.rescue.proofs.Answers.{rescue_answers}
 use Rattle.limits.specs.Limits.{within}
 use Rattle.calls.specs.declared.Call.{Call}
 use Rattle.calls.specs.declared.Records.{Records}
-use Rattle.stages.specs.declared.Outcome.{Outcome}
-use Rattle.block.specs.declared.Entry.{Entry}
-use Rattle.numbers.specs.declared.Slot.{Slot}
 use Rattle.calls.specs.Checks.{unchanged}
 use Rattle.calls.specs.Calls.{client, of_client, of_rescuer, looked, shown, checked_call}
 use Rattle.calls.specs.Demands.{leaves_everything, ends_operation, ended, Demand1}

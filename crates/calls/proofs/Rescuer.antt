@@ -10,8 +10,8 @@ use Rattle.block.specs.declared.Block.{Block}
 use Rattle.block.specs.declared.Standing.{Standing}
 use Rattle.block.specs.Block.{standing_at}
 use Rattle.block.specs.Store.{block_after, eras_after}
-use Rattle.limits.specs.Limits.{within}
 use Rattle.stages.specs.declared.Outcome.{Outcome}
+use Rattle.limits.specs.Limits.{within}
 use Rattle.calls.specs.declared.Records.{Records}
 use Rattle.calls.specs.Calls.{asks, effect, stands_as, plain_call, checked_call}
 use Rattle.calls.specs.Named.{take_over}

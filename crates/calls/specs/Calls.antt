@@ -14,15 +14,15 @@ use Rattle.block.specs.Matrix.{own_era}
 use Rattle.block.specs.Store.{byte_of}
 use Rattle.stages.specs.declared.Stage.{Stage}
 use Rattle.stages.specs.declared.Outcome.{Outcome}
+use Rattle.stages.specs.declared.ClientRecord.{ClientRecord}
 use Rattle.stages.specs.Stages.{step_of, releasing}
 use Rattle.rescue.specs.declared.RescuerStep.{RescuerStep}
+use Rattle.rescue.specs.declared.RescuerRecord.{RescuerRecord}
 use Rattle.rescue.specs.Rescue.{rescue_of, release_stage}
 use Rattle.limits.specs.Limits.{within}
 use Rattle.calls.specs.declared.Act.{Act}
 use Rattle.calls.specs.declared.Call.{Call}
 use Rattle.calls.specs.declared.Records.{Records}
-use Rattle.rescue.specs.declared.RescuerRecord.{RescuerRecord}
-use Rattle.stages.specs.declared.ClientRecord.{ClientRecord}
 use Rattle.calls.specs.Checks.{Check, unchanged, after_checks, a_client, a_cell, a_slot, stands, nothing_under_way, something_under_way, cell_empty, cell_full, below_era_stop, no_entries}
 
 -- the client that a number names, once checked

@@ -1,17 +1,17 @@
 -- The checks of the calls (R2.1): each is a test and the answer where it does not pass. The table of R2.3 to R2.13 is
 -- `asks` of Calls.antt.
 use Rattle.std.specs.Prelude.{ℕ, Bool, true, false, not, cond, List, [], ◌∷◌, ltb, eqb, Option, Some, None, Result, Ok, Err}
-use Rattle.numbers.specs.Sizes.{clients, slots, cells, era_stop}
 use Rattle.numbers.specs.declared.Era.{Era}
 use Rattle.numbers.specs.declared.answers.Answer.{Answer}
+use Rattle.numbers.specs.declared.Slot.{Slot}
+use Rattle.numbers.specs.Sizes.{clients, slots, cells, era_stop}
 use Rattle.block.specs.declared.Standing.{Standing}
 use Rattle.block.specs.declared.store.Store.{Store}
 use Rattle.block.specs.Block.{cell_at}
+use Rattle.stages.specs.declared.Outcome.{Outcome}
 use Rattle.stages.specs.Stages.{is_idle}
 use Rattle.rescue.specs.Search.{lowest_full}
 use Rattle.calls.specs.declared.Records.{Records}
-use Rattle.stages.specs.declared.Outcome.{Outcome}
-use Rattle.numbers.specs.declared.Slot.{Slot}
 
 -- a check: whether it passes, and the answer where it does not
 pub record Check : Type 0 where

@@ -1,7 +1,7 @@
 -- Demands 1 and 2 as statements about the definition that the public call's contract cites, `checked_call`.
 use Rattle.std.specs.Prelude.{ℕ, zero, suc, ◌<◌, Bool, true, false, List, [], ◌∷◌, ◌≡◌}
-use Rattle.numbers.specs.Sizes.{clients}
 use Rattle.numbers.specs.declared.answers.Answer.{Answer}
+use Rattle.numbers.specs.Sizes.{clients}
 use Rattle.block.specs.declared.Block.{Block}
 use Rattle.block.specs.declared.Standing.{Standing}
 use Rattle.block.specs.Block.{standing_at}

@@ -1,7 +1,7 @@
 -- A record's four bytes as a call (R5.1, R5.2).
 use Rattle.std.specs.Prelude.{ℕ, List, [], ◌∷◌, get_or, Option, Some, None}
-use Rattle.calls.specs.Named.{join, leave, lease, attach, release, step, fail, take_over, rescue_step, rescuer_fails, look_up}
 use Rattle.calls.specs.declared.Call.{Call}
+use Rattle.calls.specs.Named.{join, leave, lease, attach, release, step, fail, take_over, rescue_step, rescuer_fails, look_up}
 
 -- R5.2: the calls by number, from 0
 abbrev pub known : ℕ → ℕ → ℕ → List (Option Call)

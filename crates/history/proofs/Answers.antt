@@ -6,19 +6,19 @@ use mathlib.Core.List.{List}
 use mathlib.Core.Path.{◌≡◌}
 use Rattle.std.specs.Prelude.{Option, Some, None}
 use Rattle.numbers.specs.declared.answers.Answer.{Answer}
+use Rattle.numbers.specs.declared.Slot.{Slot}
 use Rattle.block.specs.declared.Block.{Block}
 use Rattle.block.specs.Block.{header_at, cell_at, log_at}
 use Rattle.block.specs.Matrix.{seen_era}
 use Rattle.stages.specs.declared.Stage.{Stage}
+use Rattle.stages.specs.declared.Outcome.{Outcome}
 use Rattle.stages.specs.Stages.{releasing, step_of}
 use Rattle.stages.proofs.Cases.{step_answers}
 use Rattle.rescue.specs.Search.{lowest_full}
 use Rattle.rescue.specs.Rescue.{rescue_of}
 use Rattle.rescue.proofs.Answers.{rescue_answers}
 use Rattle.calls.specs.declared.Call.{Call}
-use Rattle.stages.specs.declared.Outcome.{Outcome}
 use Rattle.calls.specs.declared.Records.{Records}
-use Rattle.numbers.specs.declared.Slot.{Slot}
 use Rattle.calls.specs.Calls.{client, looked, shown, plain_call}
 use Rattle.calls.proofs.Cases.{plain_cases}
 

@@ -11,19 +11,19 @@ use lib.Dec.{eqb}
 use borrow.Author.Tests.{lt-ltb}
 use Rattle.std.specs.Prelude.{Option, Some, None}
 use Rattle.std.proofs.lemmas.Bool.{cases_Bool, and_from}
-use Rattle.numbers.specs.Sizes.{clients, cells}
 use Rattle.numbers.specs.declared.answers.Answer.{Answer}
+use Rattle.numbers.specs.Sizes.{clients, cells}
 use Rattle.block.specs.declared.Standing.{Standing}
 use Rattle.block.specs.declared.store.Store.{Store}
+use Rattle.block.specs.declared.Operation.{Operation}
 use Rattle.block.specs.Block.{cell_at}
 use Rattle.stages.specs.declared.Stage.{Stage}
+use Rattle.stages.specs.declared.Outcome.{Outcome}
 use Rattle.stages.specs.Stages.{open_in, none_open, idle}
 use Rattle.stages.proofs.Cases.{stage_idle}
 use Rattle.rescue.specs.Search.{lowest_full}
 use Rattle.rescue.specs.Rescue.{rescue_of}
 use Rattle.calls.specs.declared.Call.{Call}
-use Rattle.stages.specs.declared.Outcome.{Outcome}
-use Rattle.block.specs.declared.Operation.{Operation}
 use Rattle.calls.specs.declared.Records.{Records}
 use Rattle.calls.specs.Calls.{client, asks, effect}
 use Rattle.calls.specs.Named.{fail, rescue_step}

@@ -11,8 +11,8 @@ use lib.Dec.{eqb}
 use lib.ListN.{length}
 use borrow.Author.Tests.{eqb-true, eq-eqb, ne_eqb}
 use Rattle.std.proofs.lemmas.Bool.{cases_Bool, cases_eq, and_parts, and_from, false_from_ne_true}
-use Rattle.numbers.specs.Sizes.{clients, cells, count_limit}
 use Rattle.numbers.specs.declared.answers.Answer.{Answer}
+use Rattle.numbers.specs.Sizes.{clients, cells, count_limit}
 use Rattle.block.specs.declared.Operation.{Operation}
 use Rattle.history.specs.Ledger.{Phase, visible, closing, Line, line_of, is_entry, is_line, struck, in_phase, phased, naming, is_visible, shown_by}
 use Rattle.history.specs.Demand3.{NoLines}

@@ -8,8 +8,9 @@ use lib.Dec.{eqb}
 use borrow.Author.Tests.{ltb-true, eqb-true, eq-eqb, ne_eqb, not-true}
 use Rattle.std.specs.Prelude.{Option, Some, None}
 use Rattle.std.proofs.lemmas.Bool.{cases_eq}
-use Rattle.numbers.specs.Sizes.{clients, slots, cells}
 use Rattle.numbers.specs.declared.answers.Answer.{Answer}
+use Rattle.numbers.specs.declared.Slot.{Slot}
+use Rattle.numbers.specs.Sizes.{clients, slots, cells}
 use Rattle.block.specs.declared.Kind.{Kind}
 use Rattle.block.specs.declared.Operation.{Operation}
 use Rattle.block.specs.declared.Standing.{Standing}
@@ -18,14 +19,13 @@ use Rattle.block.specs.Block.{cell_at, log_at}
 use Rattle.block.specs.Matrix.{own_era}
 use Rattle.block.specs.Store.{byte_of}
 use Rattle.stages.specs.declared.Stage.{Stage}
+use Rattle.stages.specs.declared.Outcome.{Outcome}
 use Rattle.stages.specs.Stages.{won, idle, is_release, step_of}
 use Rattle.stages.proofs.Cases.{stage_idle}
 use Rattle.rescue.specs.Search.{lowest_full}
 use Rattle.rescue.specs.Rescue.{rescue_of, release_stage}
 use Rattle.calls.specs.declared.Act.{Act}
 use Rattle.calls.specs.declared.Records.{Records}
-use Rattle.stages.specs.declared.Outcome.{Outcome}
-use Rattle.numbers.specs.declared.Slot.{Slot}
 use Rattle.calls.specs.Checks.{standing_code, same_standing, is_empty, found_nothing}
 use Rattle.calls.specs.Calls.{client, nothing, accepted, stands_as, leaves, opened, of_client, of_rescuer, looked, asks_to_open, asks_to_release, release_opened, asks, effect, stage_of}
 use Rattle.calls.specs.Named.{of}

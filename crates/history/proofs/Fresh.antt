@@ -14,10 +14,10 @@ use Rattle.numbers.specs.Sizes.{clients, slots, cells}
 use Rattle.header.specs.Header.{spare_in}
 use Rattle.header.proofs.Laws.{zero_era, zero_count, zero_client}
 use Rattle.block.specs.declared.Standing.{Standing}
+use Rattle.block.specs.declared.Entry.{Entry}
 use Rattle.block.specs.Block.{empty, all_cells, fresh_block, cell_index, cell_at, log_at, standing_at}
 use Rattle.block.specs.Matrix.{fresh_eras, seen_era}
 use Rattle.calls.specs.declared.Records.{Records}
-use Rattle.block.specs.declared.Entry.{Entry}
 use Rattle.calls.specs.Calls.{nothing}
 use Rattle.world.specs.World.{records_at, fresh}
 use Rattle.history.specs.Ledger.{naming}

@@ -11,9 +11,9 @@ use lib.Dec.{eqb}
 use borrow.Author.Tests.{eq-eqb, ne_eqb}
 use Rattle.std.proofs.lemmas.Bool.{cases_Bool}
 use Rattle.numbers.specs.Sizes.{clients}
+use Rattle.stages.specs.declared.Outcome.{Outcome}
 use Rattle.stages.specs.Stages.{won}
 use Rattle.calls.specs.declared.Call.{Call}
-use Rattle.stages.specs.declared.Outcome.{Outcome}
 use Rattle.calls.specs.declared.Records.{Records}
 use Rattle.calls.specs.Calls.{stage_of}
 use Rattle.world.specs.World.{World, run_by, run, after}

@@ -8,8 +8,8 @@ use mathlib.Core.List.{List, [], ◌∷◌}
 use mathlib.Core.Logic.{◌⊎◌}
 use mathlib.Core.Path.{◌≡◌}
 use Rattle.std.specs.Prelude.{Option, Some, None}
-use Rattle.numbers.specs.Sizes.{clients, slots, cells, era_stop, era_limit, count_limit}
 use Rattle.numbers.specs.declared.Slot.{Slot}
+use Rattle.numbers.specs.Sizes.{clients, slots, cells, era_stop, era_limit, count_limit}
 use Rattle.header.specs.Header.{era_in, count_in, client_in, spare_in}
 use Rattle.block.specs.declared.Entry.{Entry}
 use Rattle.block.specs.declared.Operation.{Operation}

@@ -10,13 +10,13 @@ use native.Mathlib.Nat.{le_refl}
 use lib.ListN.{length}
 use Rattle.std.specs.Prelude.{Option, Some, None}
 use Rattle.std.proofs.lemmas.Bool.{cases_Bool, cases_eq}
+use Rattle.numbers.specs.declared.Slot.{Slot}
 use Rattle.numbers.specs.Sizes.{clients, slots, cells, era_limit, count_limit}
 use Rattle.header.specs.declared.Fields.{Fields}
 use Rattle.header.specs.Header.{era_in, count_in, client_in}
 use Rattle.header.proofs.Laws.{Narrow, era_packed, count_packed, client_packed, spare_packed}
 use Rattle.block.specs.declared.Entry.{Entry}
 use Rattle.block.specs.declared.Operation.{Operation}
-use Rattle.numbers.specs.declared.Slot.{Slot}
 use Rattle.stages.specs.Stages.{count_after, entry_of, is_release, swapped, written}
 use Rattle.stages.proofs.ByKind.{written_release, written_entry}
 use Rattle.calls.specs.Calls.{client}

@@ -9,15 +9,15 @@ use lib.Seq.{set-get_or}
 use borrow.Author.Tests.{ltb-true}
 use Rattle.std.specs.Prelude.{Option, Some, None}
 use Rattle.std.proofs.lemmas.Bool.{cases_Bool, and_parts, both_ways}
-use Rattle.numbers.specs.Sizes.{clients}
 use Rattle.numbers.specs.declared.answers.Answer.{Answer}
+use Rattle.numbers.specs.Sizes.{clients}
+use Rattle.block.specs.declared.Operation.{Operation}
 use Rattle.stages.specs.declared.Stage.{Stage}
+use Rattle.stages.specs.declared.Outcome.{Outcome}
 use Rattle.stages.specs.Stages.{won, is_release, open_in, idle}
 use Rattle.limits.specs.Limits.{within}
 use Rattle.calls.specs.declared.Call.{Call}
 use Rattle.calls.specs.declared.Records.{Records}
-use Rattle.stages.specs.declared.Outcome.{Outcome}
-use Rattle.block.specs.declared.Operation.{Operation}
 use Rattle.calls.specs.Checks.{Check, after_checks, unchanged}
 use Rattle.calls.specs.Calls.{nothing, checks, effect, plain_call, checked_call, stage_of}
 use Rattle.world.specs.World.{World, outcome, after_by, after}

@@ -10,8 +10,9 @@ use lib.Dec.{eqb, ltb, leb}
 use borrow.Author.Tests.{eq-eqb, eqb-true, eqb-false, ltb-true, ltb-false, leb-true, leb-false}
 use Rattle.std.specs.Prelude.{Option, Some, None}
 use Rattle.std.proofs.lemmas.Bool.{cases_Bool, cases_eq, and_parts, and_from, both_ways}
-use Rattle.numbers.specs.Sizes.{clients, slots, cells, raised}
 use Rattle.numbers.specs.declared.answers.Answer.{Answer}
+use Rattle.numbers.specs.declared.Slot.{Slot}
+use Rattle.numbers.specs.Sizes.{clients, slots, cells, raised}
 use Rattle.header.specs.Header.{era_in, client_in}
 use Rattle.block.specs.declared.Entry.{Entry}
 use Rattle.block.specs.declared.Operation.{Operation}
@@ -24,7 +25,6 @@ use Rattle.stages.specs.declared.Outcome.{Outcome}
 use Rattle.stages.specs.Stages.{won, written, open_in, idle, releases, step_by}
 use Rattle.stages.proofs.Cases.{stage_idle, going_answers}
 use Rattle.rescue.specs.declared.RescuerStep.{RescuerStep}
-use Rattle.numbers.specs.declared.Slot.{Slot}
 use Rattle.rescue.specs.declared.RescuerRecord.{RescuerRecord}
 use Rattle.rescue.specs.Search.{lowest_from, lowest_full, found_at}
 use Rattle.rescue.specs.Rescue.{onto, read_log, from_row, onward, swap_stands, first_condition, second_condition, write_cell, raise_era, searched, as_rescue, rescue_by, release_stage}

@@ -11,8 +11,8 @@ use lib.Dec.{ltb}
 use borrow.Author.Tests.{eq-eqb, ne_eqb, eqb-true, ltb-true, ltb-false}
 use Rattle.std.specs.Prelude.{Some, None, Err}
 use Rattle.std.proofs.lemmas.Bool.{cases_Bool, cases_eq}
-use Rattle.numbers.specs.Sizes.{clients, cells, era_stop, era_limit, raised}
 use Rattle.numbers.specs.declared.answers.Answer.{Answer}
+use Rattle.numbers.specs.Sizes.{clients, cells, era_stop, era_limit, raised}
 use Rattle.header.specs.Header.{era_in, count_in, client_in}
 use Rattle.block.specs.declared.Operation.{Operation}
 use Rattle.block.specs.declared.Standing.{Standing}

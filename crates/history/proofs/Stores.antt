@@ -3,11 +3,11 @@
 use Prim.Native.Nat.{ℕ, ◌<◌}
 use mathlib.Core.Path.{◌≡◌}
 use Rattle.std.specs.Prelude.{Option, Some}
+use Rattle.numbers.specs.declared.Slot.{Slot}
 use Rattle.numbers.specs.Sizes.{clients, slots, cells}
 use Rattle.block.specs.declared.Standing.{Standing}
 use Rattle.block.specs.declared.store.Store.{Store}
 use Rattle.block.specs.declared.Entry.{Entry}
-use Rattle.numbers.specs.declared.Slot.{Slot}
 use Rattle.history.proofs.Updates.{upd}
 use Rattle.history.proofs.Invariant.{Won, Words, CellFits}
 

@@ -10,14 +10,14 @@ use lib.Dec.{ltb}
 use lib.ListN.{length, get_or, get_or-eq_default}
 use borrow.Author.Tests.{lt-ltb, ltb-true, ltb-false}
 use Rattle.std.proofs.lemmas.Bool.{cases_Bool, false_from_ne_true}
-use Rattle.numbers.specs.Sizes.{clients, cells, era_limit}
 use Rattle.numbers.specs.declared.answers.Answer.{Answer}
+use Rattle.numbers.specs.Sizes.{clients, cells, era_limit}
 use Rattle.block.specs.declared.Standing.{Standing}
 use Rattle.block.specs.Block.{cell_at}
+use Rattle.stages.specs.declared.Outcome.{Outcome}
 use Rattle.stages.specs.Stages.{is_idle}
 use Rattle.calls.specs.declared.Act.{Act}
 use Rattle.calls.specs.declared.Call.{Call}
-use Rattle.stages.specs.declared.Outcome.{Outcome}
 use Rattle.calls.specs.declared.Records.{Records}
 use Rattle.calls.specs.Checks.{Check, same_standing, stands, is_empty, refused}
 use Rattle.calls.specs.Calls.{asks, effect, plain_call, checked_call}

@@ -12,6 +12,7 @@ use lib.Seq.{get_or-set_same, get_or-set_other}
 use borrow.Author.Tests.{ltb-true, lt-ltb, ne_eqb}
 use Rattle.std.specs.Prelude.{Option, Some, None}
 use Rattle.std.proofs.lemmas.Bool.{cases_Bool, cases_eq}
+use Rattle.numbers.specs.declared.Slot.{Slot}
 use Rattle.numbers.specs.Sizes.{clients, slots, cells}
 use Rattle.block.specs.declared.Standing.{Standing}
 use Rattle.block.specs.declared.store.Store.{Store}
@@ -19,7 +20,6 @@ use Rattle.block.specs.Block.{empty, all_cells, header_at, cell_in, cell_index, 
 use Rattle.block.specs.Matrix.{seen_era}
 use Rattle.block.specs.Store.{byte_of, cells_with, with_era, headers_after, cells_after, logs_after, standings_after, eras_after, block_after}
 use Rattle.calls.specs.declared.Records.{Records}
-use Rattle.numbers.specs.declared.Slot.{Slot}
 use Rattle.calls.specs.Calls.{nothing}
 use Rattle.world.specs.World.{World, records_at}
 use Rattle.history.proofs.Updates.{upd, upd_same, upd_other, upd_all}

@@ -2,16 +2,16 @@
 -- this file needs World.antt (what a history is) and Ledger.antt (the ledger, from the history alone). Its parts (a),
 -- (b) and (d) are said of any machine, all of it of the machine of the rules.
 use Rattle.std.specs.Prelude.{ℕ, ◌+◌, ◌<◌, ◌≤◌, true, false, cond, List, [], ◌∷◌, ◌≡◌, None}
-use Rattle.numbers.specs.Sizes.{clients, slots, cells, era_limit, count_limit}
 use Rattle.numbers.specs.declared.answers.Answer.{Answer}
+use Rattle.numbers.specs.Sizes.{clients, slots, cells, era_limit, count_limit}
 use Rattle.header.specs.Header.{count_in}
 use Rattle.block.specs.declared.Standing.{Standing}
 use Rattle.block.specs.Block.{header_at, cell_at, standing_at}
 use Rattle.block.specs.Matrix.{own_era}
+use Rattle.stages.specs.Stages.{is_idle}
 use Rattle.calls.specs.declared.Call.{Call}
 use Rattle.calls.specs.Checks.{is_empty, refused}
 use Rattle.calls.specs.Named.{release, step, fail, take_over, rescue_step, look_up}
-use Rattle.stages.specs.Stages.{is_idle}
 use Rattle.world.specs.World.{World, Machine, rules, records_at, answer_by, after_by, run_by, fresh, outcome, answer, after, run}
 use Rattle.history.specs.Ledger.{Line, ledger_by, ledger, naming, shown_by, swaps_won, past_swap}
 

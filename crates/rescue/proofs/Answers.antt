@@ -5,12 +5,12 @@ use mathlib.Core.Path.{◌≡◌, refl}
 use Rattle.std.specs.Prelude.{Option, Some, None}
 use Rattle.numbers.specs.declared.Client.{Client}
 use Rattle.numbers.specs.declared.answers.Answer.{Answer}
+use Rattle.numbers.specs.declared.Slot.{Slot}
+use Rattle.block.specs.declared.Entry.{Entry}
 use Rattle.stages.specs.declared.Stage.{Stage}
 use Rattle.stages.specs.Stages.{idle, step_by}
 use Rattle.stages.proofs.Cases.{going_answers}
 use Rattle.rescue.specs.declared.RescuerStep.{RescuerStep}
-use Rattle.block.specs.declared.Entry.{Entry}
-use Rattle.numbers.specs.declared.Slot.{Slot}
 use Rattle.rescue.specs.Rescue.{read_log, first_condition, second_condition, write_cell, raise_era, searched, as_rescue, rescue_by}
 
 module _ (P : Answer → Type 0) (zero : P Answer.Accepted) (lost : P Answer.SwapLost) (hundred : P Answer.Finished)

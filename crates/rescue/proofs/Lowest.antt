@@ -5,8 +5,8 @@ use mathlib.Core.List.{List}
 use mathlib.Core.Path.{◌≡◌, ap, ◌∙◌}
 use native.Mathlib.Omega.{arith}
 use Rattle.std.specs.Prelude.{Option, Some, None}
-use Rattle.numbers.specs.Sizes.{cells}
 use Rattle.numbers.specs.declared.Slot.{Slot}
+use Rattle.numbers.specs.Sizes.{cells}
 use Rattle.block.specs.Block.{cell_at}
 use Rattle.rescue.specs.Search.{found_at, lowest_from}
 

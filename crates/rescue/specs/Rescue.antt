@@ -4,6 +4,7 @@ use Rattle.std.specs.Prelude.{ℕ, ◌+◌, Bool, cond, ◌&&◌, List, ltb, leb
 use Rattle.numbers.specs.declared.Client.{Client}
 use Rattle.numbers.specs.declared.Era.{Era}
 use Rattle.numbers.specs.declared.answers.Answer.{Answer}
+use Rattle.numbers.specs.declared.Slot.{Slot}
 use Rattle.numbers.specs.Sizes.{clients, raised}
 use Rattle.header.specs.Header.{era_in, client_in}
 use Rattle.block.specs.declared.Entry.{Entry}
@@ -14,11 +15,10 @@ use Rattle.block.specs.Block.{header_at}
 use Rattle.block.specs.Matrix.{seen_era}
 use Rattle.stages.specs.declared.Stage.{Stage}
 use Rattle.stages.specs.declared.Outcome.{Outcome}
+use Rattle.stages.specs.declared.ClientRecord.{ClientRecord}
 use Rattle.stages.specs.Stages.{step_by, written, is_idle}
 use Rattle.rescue.specs.declared.RescuerStep.{RescuerStep}
-use Rattle.numbers.specs.declared.Slot.{Slot}
 use Rattle.rescue.specs.declared.RescuerRecord.{RescuerRecord}
-use Rattle.stages.specs.declared.ClientRecord.{ClientRecord}
 use Rattle.rescue.specs.Search.{lowest_full}
 
 -- what a rescue step answers, the step that comes next, the one word it writes

@@ -1,8 +1,8 @@
 -- The lowest cell that holds a slot (R4.6).
 use Rattle.std.specs.Prelude.{ℕ, zero, suc, ◌+◌, List, Option, Some, None}
+use Rattle.numbers.specs.declared.Slot.{Slot}
 use Rattle.numbers.specs.Sizes.{cells}
 use Rattle.block.specs.Block.{cell_at}
-use Rattle.numbers.specs.declared.Slot.{Slot}
 
 -- cell k itself where it holds a slot, else what the rest of the search finds
 abbrev pub found_at : ℕ → Option Slot → Option (ℕ × Slot) → Option (ℕ × Slot)

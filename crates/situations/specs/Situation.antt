@@ -6,11 +6,11 @@ use Rattle.header.specs.Header.{packed, count_in}
 use Rattle.block.specs.declared.Kind.{Kind}
 use Rattle.block.specs.declared.Standing.{Standing}
 use Rattle.block.specs.declared.store.Store.{Store}
+use Rattle.block.specs.declared.Entry.{Entry}
 use Rattle.block.specs.Block.{header_at, cell_at, standing_at}
 use Rattle.block.specs.Matrix.{seen_era, own_era}
 use Rattle.block.specs.Store.{byte_of}
 use Rattle.calls.specs.declared.Call.{Call}
-use Rattle.block.specs.declared.Entry.{Entry}
 use Rattle.calls.specs.Named.{lease, attach, release, step, take_over, rescue_step}
 use Rattle.calls.specs.Checks.{standing_code, same_standing, is_empty}
 use Rattle.world.specs.World.{World, fresh, outcome, answer, after, run}

@@ -2,9 +2,9 @@
 -- in a sentence, and how its numbers follow from the rules. A header is written {era, count, client}, and its word is
 -- named where the rules name it (situation A).
 use Rattle.std.specs.Prelude.{ℕ, true, List, [], ◌∷◌, ◌++◌, ◌≡◌}
+use Rattle.std.specs.List.{list_all}
 use Rattle.block.specs.declared.Standing.{Standing}
 use Rattle.block.specs.Store.{with_era}
-use Rattle.std.specs.List.{list_all}
 use Rattle.calls.specs.Named.{join, leave, lease, attach, release, step, fail, take_over, rescue_step, rescuer_fails, look_up}
 use Rattle.world.specs.World.{World, fresh}
 use Rattle.situations.specs.Situation.{Item, Situation, file, end_of, holds, found, answered, accepted, steps, six_steps, whole_lease, whole_attach, whole_release, rescue_steps, last_rescue_steps, rescue}

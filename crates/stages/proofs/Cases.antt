@@ -11,8 +11,8 @@ use Rattle.block.specs.declared.Operation.{Operation}
 use Rattle.stages.specs.declared.Stage.{Stage}
 use Rattle.stages.specs.declared.Outcome.{Outcome}
 use Rattle.stages.specs.declared.ClientRecord.{ClientRecord}
-use Rattle.stages.proofs.ByKind.{asked_refuses}
 use Rattle.stages.specs.Stages.{asks_nothing, kept, closed, asked, loaded, load_stage, note_stage, log_stage, won, swap_won, swap_lost, swap_by, swap_stage, cell_stage, era_stage, step_by, idle}
+use Rattle.stages.proofs.ByKind.{asked_refuses}
 
 -- a stage with nothing under way is none
 pub stage_idle : (stage : Stage) → idle stage ≡ true → stage ≡ Stage.Idle

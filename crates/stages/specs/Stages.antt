@@ -6,6 +6,7 @@ use Rattle.std.specs.Prelude.{ℕ, ◌+◌, ◌-◌, Bool, true, false, cond, Li
 use Rattle.numbers.specs.declared.Client.{Client}
 use Rattle.numbers.specs.declared.Era.{Era}
 use Rattle.numbers.specs.declared.answers.Answer.{Answer}
+use Rattle.numbers.specs.declared.Slot.{Slot}
 use Rattle.numbers.specs.Sizes.{raised}
 use Rattle.header.specs.Header.{packed, unpacked, era_in, count_in, client_in, is_free}
 use Rattle.block.specs.declared.Entry.{Entry}
@@ -17,7 +18,6 @@ use Rattle.block.specs.Matrix.{seen_era}
 use Rattle.stages.specs.declared.ClientRecord.{ClientRecord}
 use Rattle.stages.specs.declared.Stage.{Stage}
 use Rattle.stages.specs.declared.Outcome.{Outcome}
-use Rattle.numbers.specs.declared.Slot.{Slot}
 
 -- what a step answers, the stage that comes next, the one word it writes
 abbrev pub went : Answer → Stage → Store → Outcome ClientRecord

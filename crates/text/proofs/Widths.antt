@@ -6,11 +6,11 @@ use native.Mathlib.Omega.{arith}
 use native.Mathlib.Numerals.{add-one}
 use borrow.Author.Tests.{lt-ltb, le-ltb}
 use lib.ListN.{length, take, drop, length-append, take-append-drop}
+use Rattle.std.specs.Fmt as Fmt
 use Rattle.std.proofs.Common.{inl, inr}
 use Rattle.std.proofs.Math.Nat.{pow-suc, one-le-pow}
 use Rattle.std.proofs.lemmas.Bool.{cases_lt}
 use Rattle.std.proofs.lemmas.Fmt.{decimal_by_steps, decimal_nonempty, decimal_step, length-decimal-le}
-use Rattle.std.specs.Fmt as Fmt
 use Rattle.text.specs.Text.{spelled, width_from, width, decimal, line, slot_line, number_size, line_size, slot_line_size, Put}
 
 -- k digits are k bytes more

@@ -9,12 +9,12 @@ use Rattle.std.specs.Prelude.{Option}
 use Rattle.numbers.specs.Answers.{number_of}
 use Rattle.header.specs.Header.{unpacked}
 use Rattle.block.specs.Block.{fresh_block}
-use Rattle.world.specs.World.{World, Machine, fresh}
-use Rattle.decode.specs.Decode.{decoded, record_size, first_asked}
 use Rattle.text.specs.Text.{line_size}
 use Rattle.text.proofs.Widths.{line_most}
-use Rattle.trace.specs.Play.{asked, wholes, cut, told, next, text_by, world_by, slots_text, end_text, played_by, printed}
 use Rattle.calls.specs.declared.Call.{Call}
+use Rattle.decode.specs.Decode.{decoded, record_size, first_asked}
+use Rattle.world.specs.World.{World, Machine, fresh}
+use Rattle.trace.specs.Play.{asked, wholes, cut, told, next, text_by, world_by, slots_text, end_text, played_by, printed}
 
 -- what the record at a place of some bytes asks for
 pub first_at :

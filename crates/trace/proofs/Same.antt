@@ -4,10 +4,11 @@ use Prim.Native.Nat.{ℕ, ◌+◌}
 use mathlib.Core.List.{List, [], ◌∷◌, ◌++◌}
 use mathlib.Core.Path.{◌≡◌, refl, ap, ◌∙◌}
 use Rattle.std.specs.Prelude.{Option, Some, None}
-use Rattle.numbers.specs.Answers.{number_of}
 use Rattle.numbers.specs.declared.answers.Answer.{Answer}
-use Rattle.calls.specs.declared.Call.{Call}
+use Rattle.numbers.specs.Answers.{number_of}
 use Rattle.stages.specs.declared.Outcome.{Outcome}
+use Rattle.text.specs.Text.{line}
+use Rattle.calls.specs.declared.Call.{Call}
 use Rattle.calls.specs.declared.Records.{Records}
 use Rattle.calls.specs.Calls.{checked_call}
 use Rattle.world.specs.World.{World, rules, fresh, outcome_by, after_by}
@@ -17,7 +18,6 @@ use Rattle.history.proofs.Histories.{Good}
 use Rattle.history.proofs.Histories.{next as good_next}
 use Rattle.history.proofs.Fresh.{fresh_good}
 use Rattle.history.proofs.Limits.{all_within}
-use Rattle.text.specs.Text.{line}
 use Rattle.trace.specs.Play.{plainly, told, next, text_by, world_by, played_by, printed}
 
 -- a world that a history leads to, however it went

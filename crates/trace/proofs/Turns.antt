@@ -9,14 +9,14 @@ use lib.Dec.{ltb}
 use lib.ListN.{length, drop}
 use Rattle.std.specs.Prelude.{Option}
 use Rattle.std.proofs.lemmas.Bool.{cases_Bool}
-use Rattle.numbers.specs.Answers.{number_of}
 use Rattle.numbers.specs.declared.answers.Answer.{Answer}
-use Rattle.calls.specs.declared.Call.{Call}
-use Rattle.world.specs.World.{World}
+use Rattle.numbers.specs.Answers.{number_of}
 use Rattle.text.specs.Text.{line, line_size, filled, Put, PutIn}
 use Rattle.text.proofs.Filling.{put_none, put_all, put_then, put_length}
 use Rattle.text.proofs.Widths.{line_most}
+use Rattle.calls.specs.declared.Call.{Call}
 use Rattle.decode.specs.Decode.{record_size, first_asked}
+use Rattle.world.specs.World.{World}
 use Rattle.trace.specs.Play.{asked, plainly, told, next, text_by, world_by, last_place, turn_count, Turn}
 use Rattle.trace.proofs.Playing.{asked_length, asked_more, world_then, text_then, text_most}
 

@@ -1,16 +1,16 @@
 -- Playing a file (Part 5): records of a fixed size, a line for each, and the slots in use at the end.
 use Rattle.std.specs.Prelude.{ℕ, zero, suc, ◌+◌, ◌-◌, ◌*◌, ◌/◌, ◌≤◌, cond, List, [], ◌∷◌, ◌++◌, ◌≡◌, eqb, ltb, length, drop, Option, Some, None}
-use Rattle.numbers.specs.Answers.{number_of}
 use Rattle.numbers.specs.declared.answers.Answer.{Answer}
+use Rattle.numbers.specs.Answers.{number_of}
 use Rattle.header.specs.Header.{count_in}
 use Rattle.block.specs.declared.Block.{Block}
-use Rattle.calls.specs.declared.Records.{Records}
-use Rattle.calls.specs.Calls.{plain_call}
-use Rattle.world.specs.World.{World, Machine, calling, rules, fresh, answer_by, after_by}
-use Rattle.decode.specs.Decode.{record_size, first_asked}
 use Rattle.text.specs.Text.{line, slot_line, line_size, slot_line_size, filled, fitting}
-use Rattle.trace.specs.declared.Played.{Played}
+use Rattle.calls.specs.declared.Records.{Records}
 use Rattle.calls.specs.declared.Call.{Call}
+use Rattle.calls.specs.Calls.{plain_call}
+use Rattle.decode.specs.Decode.{record_size, first_asked}
+use Rattle.world.specs.World.{World, Machine, calling, rules, fresh, answer_by, after_by}
+use Rattle.trace.specs.declared.Played.{Played}
 
 -- what the first k records of some bytes ask for
 unfoldable pub asked : ℕ → List ℕ → List (Option Call)

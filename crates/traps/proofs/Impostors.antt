@@ -7,9 +7,9 @@ use Rattle.numbers.specs.Answers.{number_of}
 use Rattle.header.specs.Header.{packed, unpacked, spare_in}
 use Rattle.block.specs.Block.{fresh_block}
 use Rattle.block.specs.Matrix.{fresh_eras}
+use Rattle.stages.specs.declared.Outcome.{Outcome}
 use Rattle.stages.specs.Stages.{load_stage, note_stage, log_stage, swap_stage, written, cell_stage, era_stage, step_of}
 use Rattle.limits.specs.Limits.{header_within, entry_within, block_within, row_within, stage_within, rescue_within, within}
-use Rattle.stages.specs.declared.Outcome.{Outcome}
 use Rattle.calls.specs.declared.Records.{Records}
 use Rattle.calls.specs.Calls.{asks, effect, plain_call, checked_call}
 use Rattle.world.specs.World.{CallFunction, calling, fresh, after_by, run_by}

@@ -6,10 +6,10 @@ use Rattle.block.specs.declared.Block.{Block}
 use Rattle.block.specs.declared.store.Store.{Store}
 use Rattle.block.specs.Matrix.{own_era}
 use Rattle.stages.specs.declared.Stage.{Stage}
+use Rattle.stages.specs.declared.Outcome.{Outcome}
 use Rattle.stages.specs.Stages.{went, swapped, place_of}
 use Rattle.calls.specs.declared.Call.{Call}
 use Rattle.calls.specs.declared.Records.{Records}
-use Rattle.stages.specs.declared.Outcome.{Outcome}
 use Rattle.calls.specs.Checks.{unchanged, refused}
 use Rattle.calls.specs.Calls.{client, of_client, checked_call}
 use Rattle.calls.specs.Named.{join}

@@ -1,6 +1,7 @@
 -- The machine of the rules with one of them broken, for each trap of part 7 of the rules. A trap is one part of the
 -- machine, written as what it does otherwise than the part of the rules; `breaking` puts it in that part's place.
 use Rattle.std.specs.Prelude.{ℕ, Bool, cond, ◌&&◌, List, [], ◌∷◌, leb, eqb, get_or, set, replicate}
+use Rattle.std.specs.List.{list_all}
 use Rattle.numbers.specs.declared.Client.{Client}
 use Rattle.numbers.specs.declared.answers.Answer.{Answer}
 use Rattle.numbers.specs.Sizes.{clients, era_limit}
@@ -18,7 +19,6 @@ use Rattle.stages.specs.Stages.{went, won, swap_by, step_of, place_of, idle}
 use Rattle.rescue.specs.declared.RescuerRecord.{RescuerRecord}
 use Rattle.rescue.specs.declared.RescuerStep.{RescuerStep}
 use Rattle.rescue.specs.Rescue.{onward, as_rescue}
-use Rattle.std.specs.List.{list_all}
 use Rattle.limits.specs.Limits.{block_within, stage_within, rescue_within, within}
 use Rattle.calls.specs.declared.Act.{Act}
 use Rattle.calls.specs.declared.Records.{Records}

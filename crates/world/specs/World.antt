@@ -1,20 +1,20 @@
 -- A history of calls (R1.10): from a fresh block, each call is given the block and the records last handed back. What a
 -- history is, is said of any machine; the machine of the rules is `rules`, and what is said of it has the short names.
 use Rattle.std.specs.Prelude.{ℕ, Bool, List, [], ◌∷◌, get_or, set, replicate}
-use Rattle.numbers.specs.Sizes.{clients}
 use Rattle.numbers.specs.declared.answers.Answer.{Answer}
+use Rattle.numbers.specs.Sizes.{clients}
 use Rattle.block.specs.declared.Block.{Block}
 use Rattle.block.specs.declared.store.Store.{Store}
 use Rattle.block.specs.Block.{fresh_block}
 use Rattle.block.specs.Matrix.{fresh_eras}
 use Rattle.block.specs.Store.{block_after, eras_after}
 use Rattle.stages.specs.declared.ClientRecord.{ClientRecord}
+use Rattle.stages.specs.declared.Outcome.{Outcome}
 use Rattle.stages.specs.Stages.{won}
 use Rattle.rescue.specs.declared.RescuerRecord.{RescuerRecord}
 use Rattle.limits.specs.Limits.{within}
 use Rattle.calls.specs.declared.Call.{Call}
 use Rattle.calls.specs.declared.Records.{Records}
-use Rattle.stages.specs.declared.Outcome.{Outcome}
 use Rattle.calls.specs.Calls.{nothing, checked_call}
 
 -- the shared words, and every client's private words

@@ -1,2 +1,0 @@
--- `Called` has what a branch on the result of a test tells.
-pub mod Called
