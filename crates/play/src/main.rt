@@ -47,6 +47,9 @@ fn main(rt: HostRuntime) -> io::Result<()> {
     let mut input = rt.stdin();
     let mut buf = [0; CHUNK];
     let mut out = [0; ROOM];
+    // A chunk is whole records, and their lines have room: a turn leaves none of it unplayed.
+    prove!(buf.len() == 16384);
+    prove!(out.len() == 172032);
     let mut eras = block::matrix::fresh_eras();
     let mut played = first();
     // No `rt.forever()`: it would be a `Wait`.

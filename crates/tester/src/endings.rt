@@ -1,5 +1,4 @@
 // How the runs of a sweep ended: runs that ended alike are counted together, in the order in which they first came.
-use std::alloc::{AllocError, Global};
 
 // How many endings are told apart; a later one is counted with the last of them.
 const MOST: usize = 64;
@@ -22,13 +21,23 @@ pub(crate) struct Alike {
     pub(crate) most: u64,
 }
 
-// The endings so far.
-#[derive(Drop)]
+// The endings so far, from the front.
+#[derive(Clone, Copy)]
 pub(crate) struct Endings {
-    pub(crate) all: Vec<Alike>,
+    pub(crate) all: [Option<Alike>; MOST],
 }
 
 impl Alike {
+    // The first run that ended so.
+    fn first(ending: Ending, steps: u64) -> Alike {
+        Alike {
+            ending,
+            runs: 1,
+            least: steps,
+            most: steps,
+        }
+    }
+
     // One run more, of so many rescue steps.
     fn add(&mut self, steps: u64) {
         self.runs = self.runs.saturating_add(1);
@@ -39,33 +48,33 @@ impl Alike {
 
 impl Endings {
     // No run yet.
-    pub(crate) fn new(alloc: Global) -> Endings {
-        Endings {
-            all: Vec::new(alloc),
-        }
+    pub(crate) fn new() -> Endings {
+        Endings { all: [None; MOST] }
+    }
+
+    // The place of an ending: its own so far, else the next one, else the last.
+    fn place(&self, ending: Ending) -> usize {
+        let place = self
+            .all
+            .iter()
+            .position(|alike| alike.is_none_or(|alike| alike.ending == ending));
+        place.unwrap_or(MOST - 1)
     }
 
     // One run more that ended so.
-    pub(crate) fn add(&mut self, ending: Ending, steps: u64) -> Result<(), AllocError> {
-        let place = self.all.iter().position(|alike| alike.ending == ending);
-        if place.is_none() && self.all.len() < MOST {
-            self.all.push(Alike {
-                ending,
-                runs: 1,
-                least: steps,
-                most: steps,
-            })?;
-        } else if let Some(alike) = self.all.get_mut(place.unwrap_or(MOST - 1)) {
-            alike.add(steps);
+    pub(crate) fn add(&mut self, ending: Ending, steps: u64) {
+        let at = self.place(ending);
+        match self.all.get_mut(at) {
+            Some(Some(alike)) => alike.add(steps),
+            Some(place) => *place = Some(Alike::first(ending, steps)),
+            None => {}
         }
-        Ok(())
     }
 }
 
 #[cfg(test)]
 mod tests {
     use super::*;
-    use std::test::Fail;
 
     // An ending for each count.
     fn ending(count: u32) -> Ending {
@@ -78,20 +87,16 @@ mod tests {
     }
 
     #[test]
-    fn endings_past_the_most_are_counted_with_the_last(rt: HostRuntime) -> Result<(), Fail> {
-        let mut endings = Endings::new(rt.alloc());
+    fn endings_past_the_most_are_counted_with_the_last(rt: HostRuntime) {
+        let mut endings = Endings::new();
         for count in (0..66).chain([63, 5]) {
-            endings.add(ending(count), u64::from(count))?;
+            endings.add(ending(count), u64::from(count));
         }
-        assert_eq!(rt; endings.all.len(), MOST);
+        assert_eq!(rt; endings.all.iter().flatten().count(), MOST);
         assert_eq!(rt;
-            endings
-                .all
-                .last()
-                .map(|alike| (alike.runs, alike.least, alike.most)),
+            endings.all[MOST - 1].map(|alike| (alike.runs, alike.least, alike.most)),
             Some((4, 63, 65))
         );
-        assert_eq!(rt; endings.all.get(5).map(|alike| alike.runs), Some(2));
-        Ok(())
+        assert_eq!(rt; endings.all[5].map(|alike| alike.runs), Some(2));
     }
 }

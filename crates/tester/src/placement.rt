@@ -1,6 +1,7 @@
 // Who comes next in a run of the sweep. After the set-up the victim opens its operation and is killed after any of its
 // steps; then its rescue runs to the end, and meanwhile the rescuer and its successor may be killed after any of their
 // steps, and another host may play its own operation, in so many parts as the section allows.
+use crate::acts::Record;
 use crate::doing::Doing;
 use crate::scene::Scene;
 use calls::{Act, Call};
@@ -8,12 +9,12 @@ use numbers::Slot;
 use numbers::answers::Answer;
 use rescue::RescuerStep;
 
-// What is swept: the world that every run begins in, the set-up's calls, the opening calls of the victim and of the
+// What is swept: the world that every run begins in, the set-up's records, the opening calls of the victim and of the
 // other host.
-#[derive(Drop)]
-pub(crate) struct Plan {
+#[derive(Clone, Copy)]
+pub(crate) struct Plan<'a> {
     pub(crate) begin: Scene,
-    pub(crate) set_up: Vec<Call>,
+    pub(crate) set_up: &'a [Record],
     pub(crate) opening: Call,
     pub(crate) other: Option<Call>,
 }
@@ -29,7 +30,7 @@ pub(crate) struct Other {
 // operation.
 #[derive(Clone, Copy)]
 pub(crate) struct Section<'a> {
-    pub(crate) plan: &'a Plan,
+    pub(crate) plan: &'a Plan<'a>,
     pub(crate) slot: Slot,
     pub(crate) kills: u64,
     pub(crate) other: Option<Other>,
@@ -73,7 +74,7 @@ pub(crate) struct Progress {
     parts: u64,
 }
 
-impl Plan {
+impl Plan<'_> {
     // The client that is killed.
     pub(crate) fn victim(&self) -> u64 {
         self.opening.client

@@ -1,30 +1,29 @@
 // What a section's runs came to.
 use crate::agree::Difference;
-use crate::choices::Choices;
+use crate::choices::{Choices, Picks};
 use crate::endings::{Ending, Endings};
 use crate::placement::Section;
 use crate::run::Run;
 use block::header_at;
 use header::unpack;
-use std::alloc::{AllocError, Global};
 
 // The first run that differs in one way: the picks that it made.
-#[derive(Drop)]
+#[derive(Clone, Copy)]
 pub(crate) struct First {
     pub(crate) differs: Difference,
-    pub(crate) picks: Vec<usize>,
+    pub(crate) picks: Picks,
 }
 
 // The endings, how many runs and calls there were and how many runs differ, whether a run was too long to be gone
 // through, and the first run of each way of differing.
-#[derive(Drop)]
+#[derive(Clone, Copy)]
 pub(crate) struct Sum {
     pub(crate) endings: Endings,
     pub(crate) runs: u64,
     pub(crate) calls: u64,
     pub(crate) differing: u64,
     pub(crate) cut: bool,
-    pub(crate) firsts: Vec<First>,
+    pub(crate) firsts: [Option<First>; Difference::ALL.len()],
 }
 
 // One run more. Past 2^32 the number starts over: that is what is printed, and it may not change.
@@ -44,33 +43,34 @@ fn ending_of(run: &Run, section: &Section) -> Ending {
 
 impl Sum {
     // No run yet.
-    pub(crate) fn new(alloc: Global) -> Sum {
+    pub(crate) fn new() -> Sum {
         Sum {
-            endings: Endings::new(alloc),
+            endings: Endings::new(),
             runs: 0,
             calls: 0,
             differing: 0,
             cut: false,
-            firsts: Vec::new(alloc),
+            firsts: [None; Difference::ALL.len()],
         }
     }
 
     // Keeps the first run of its way of differing.
-    fn keep(&mut self, differs: Difference, choices: &Choices) -> Result<(), AllocError> {
-        if self.firsts.iter().all(|first| first.differs != differs) {
-            let picks = choices.picks()?;
-            self.firsts.push(First { differs, picks })?;
+    fn keep(&mut self, differs: Difference, choices: &Choices) {
+        for place in &mut self.firsts {
+            match place {
+                Some(first) if first.differs == differs => return,
+                Some(_) => {}
+                None => {
+                    let picks = choices.picks();
+                    *place = Some(First { differs, picks });
+                    return;
+                }
+            }
         }
-        Ok(())
     }
 
     // One run more, which has made those choices.
-    pub(crate) fn add(
-        &mut self,
-        run: &Run,
-        choices: &Choices,
-        section: &Section,
-    ) -> Result<(), AllocError> {
+    pub(crate) fn add(&mut self, run: &Run, choices: &Choices, section: &Section) {
         self.runs = one_more(self.runs);
         self.calls = self.calls.saturating_add(run.calls);
         self.cut = self.cut || choices.is_full();

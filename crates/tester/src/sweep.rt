@@ -2,7 +2,7 @@
 // fresh block through the proved machine, held to the ledger after every call. The views make the table of its numbers.
 use crate::acts::{record_numbers, swept_call};
 use crate::agree::Difference;
-use crate::choices::Choices;
+use crate::choices::{Choices, Picks};
 use crate::endings::Alike;
 use crate::placement::{Other, Plan, Section};
 use crate::print::Numbers;
@@ -31,20 +31,21 @@ fn set_up_run<F: FnMut(Call) -> io::Result<()>>(plan: &Plan, mut tell: F) -> io:
     requires { F.IsAlwaysCallable tell }
 {
     let mut run = Run::new(plan.begin);
-    for call in &plan.set_up {
+    for record in plan.set_up {
         if run.differs.is_some() {
             break;
         }
-        run.play(*call, plan.victim());
-        tell(*call)?;
+        let call = swept_call(*record);
+        run.play(call, plan.victim());
+        tell(call)?;
     }
     Ok(run)
 }
 
 // Every run of a section, from the run of the set-up on.
-fn swept(rt: &(impl Eprint + AllocGlobal), section: &Section) -> io::Result<Sum> {
-    let mut sum = Sum::new(rt.alloc());
-    let mut choices = Choices::new(rt.alloc());
+fn swept(rt: &impl Eprint, section: &Section) -> io::Result<Sum> {
+    let mut sum = Sum::new();
+    let mut choices = Choices::new();
     let mut run = set_up_run(section.plan, |_| Ok(()))?;
     let mut pick = 0;
     // A bound, since `rt.forever()` would be a `Wait`.
@@ -52,13 +53,13 @@ fn swept(rt: &(impl Eprint + AllocGlobal), section: &Section) -> io::Result<Sum>
         let actors = run.actors(section);
         if let Some(actor) = actors.at(pick) {
             if pick == 0 && 1 < actors.width() {
-                choices.add(&run, actors.width())?;
+                choices.add(&run, actors.width());
             }
             run.turn(actor, section);
             pick = 0;
             continue;
         }
-        sum.add(&run, &choices, section)?;
+        sum.add(&run, &choices, section);
         tell_progress(rt, sum.runs);
         let Some(choice) = choices.go_back() else {
             break;
@@ -104,9 +105,9 @@ fn print_record(rt: &impl Print, call: Call) -> io::Result<()> {
 }
 
 // The calls of a run that made those picks, up to the one after which it differs.
-fn print_run(rt: &impl Print, section: &Section, picks: &[usize]) -> io::Result<()> {
+fn print_run(rt: &impl Print, section: &Section, picks: &Picks) -> io::Result<()> {
     let mut run = set_up_run(section.plan, |call| print_record(rt, call))?;
-    let mut picks = picks.iter();
+    let mut picks = picks.iter().flatten();
     for _ in 0..MOST_TOLD {
         let actors = run.actors(section);
         let picked = if 1 < actors.width() {
@@ -129,7 +130,12 @@ fn print_first(
     sum: &Sum,
     differs: Difference,
 ) -> io::Result<()> {
-    let Some(first) = sum.firsts.iter().find(|first| first.differs == differs) else {
+    let Some(first) = sum
+        .firsts
+        .iter()
+        .flatten()
+        .find(|first| first.differs == differs)
+    else {
         return Ok(());
     };
     let numbers = [u64::from(differs), section.kills, section.parts()];
@@ -138,10 +144,10 @@ fn print_first(
 }
 
 // Sweeps a section and prints what came of it.
-fn sweep_section(rt: &(impl Print + Eprint + AllocGlobal), section: &Section) -> io::Result<()> {
+fn sweep_section(rt: &(impl Print + Eprint), section: &Section) -> io::Result<()> {
     let sum = swept(rt, section)?;
     print_section(rt, section, &sum)?;
-    for alike in &sum.endings.all {
+    for alike in sum.endings.all.iter().flatten() {
         print_ending(rt, alike)?;
     }
     for differs in Difference::ALL {
@@ -171,11 +177,7 @@ fn slot_of(call: Call, scene: &Scene) -> Slot {
 }
 
 // Every section: deaths alone, and then with the other host.
-fn sweep_sections(
-    rt: &(impl Print + Eprint + AllocGlobal),
-    plan: &Plan,
-    slot: Slot,
-) -> io::Result<()> {
+fn sweep_sections(rt: &(impl Print + Eprint), plan: &Plan, slot: Slot) -> io::Result<()> {
     let alone = Section {
         plan,
         slot,
@@ -208,10 +210,10 @@ fn refusal(scene: &Scene, call: Call) -> Option<Answer> {
 
 // Sweeps a plan, where the world after the set-up accepts both openings; else a line says whose is refused, the victim's
 // (1) or the other host's (2), and with what.
-fn sweep_plan(rt: &(impl Print + Eprint + AllocGlobal), plan: &Plan) -> io::Result<()> {
+fn sweep_plan(rt: &(impl Print + Eprint), plan: &Plan) -> io::Result<()> {
     let mut scene = plan.begin;
-    for call in &plan.set_up {
-        scene.play(*call);
+    for record in plan.set_up {
+        scene.play(swept_call(*record));
     }
     for (whose, opening) in [(1, Some(plan.opening)), (2, plan.other)] {
         if let Some(answer) = opening.and_then(|call| refusal(&scene, call)) {
@@ -224,7 +226,7 @@ fn sweep_plan(rt: &(impl Print + Eprint + AllocGlobal), plan: &Plan) -> io::Resu
 // Reads the victim's opening, the other host's (call 0: none) and the set-up from standard input, and sweeps, each run
 // from the world that it is given.
 pub(crate) fn sweep(
-    rt: &(impl Print + Eprint + AllocGlobal),
+    rt: &(impl Print + Eprint),
     input: &mut impl Read,
     begin: Scene,
 ) -> io::Result<()> {
@@ -236,10 +238,7 @@ pub(crate) fn sweep(
     };
     let plan = Plan {
         begin,
-        set_up: set_up
-            .iter()
-            .map(|record| swept_call(*record))
-            .collect(rt.alloc())?,
+        set_up,
         opening: swept_call(*opening),
         other: (other[0] != 0).then_some(swept_call(*other)),
     };

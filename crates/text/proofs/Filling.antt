@@ -15,13 +15,13 @@ pub filled_none : (o : List ℕ) (at : ℕ) → filled o at [] ≡ o
 filled_none o at = let z : at + 0 ≡ at = omega arith in rw z (take-append-drop at o)
 
 -- the length stays
-filled_length : (o : List ℕ) (at : ℕ) (t : List ℕ) → at + length t ≤ length o → length (filled o at t) ≡ length o
+pub filled_length : (o : List ℕ) (at : ℕ) (t : List ℕ) → at + length t ≤ length o → length (filled o at t) ≡ length o
 filled_length o at t h =
     simp (length-append, length-drop, length-take-le at o (omega arith))
     (let z : at + (length t + (length o - (at + length t))) ≡ length o = omega arith in z)
 
 -- one text after another
-filled_then :
+pub filled_then :
     (o : List ℕ) (at : ℕ) (t u : List ℕ) (mid : ℕ) →
     mid ≡ at + length t →
     mid + length u ≤ length o →

@@ -14,13 +14,13 @@ use Rattle.std.proofs.lemmas.Fmt.{decimal_by_steps, decimal_nonempty, decimal_st
 use Rattle.text.specs.Text.{spelled, width_from, width, decimal, line, slot_line, number_size, line_size, slot_line_size, Put}
 
 -- k digits are k bytes more
-spelled_length : (k n : ℕ) (a : List ℕ) → length (spelled k n a) ≡ k + length a
+pub spelled_length : (k n : ℕ) (a : List ℕ) → length (spelled k n a) ≡ k + length a
 unfolding spelled
 spelled_length zero n a = omega arith
 spelled_length (suc k) n a = spelled_length k (n / 10) ((48 + n % 10) ∷ a) ∙ (let z : k + suc (length a) ≡ suc k + length a = omega arith in z)
 
 -- what a text is put before does not change its digits
-spelled_append : (k n : ℕ) (a b : List ℕ) → spelled k n a ++ b ≡ spelled k n (a ++ b)
+pub spelled_append : (k n : ℕ) (a b : List ℕ) → spelled k n a ++ b ≡ spelled k n (a ++ b)
 unfolding spelled
 spelled_append zero n a b = refl
 spelled_append (suc k) n a b = spelled_append k (n / 10) ((48 + n % 10) ∷ a) b
@@ -34,9 +34,18 @@ tries (suc f) k p n =
       | inr h ↦ rw (le-ltb n p h) (let t = tries f (k + 1) (p * 10) n in omega arith)
     ]
 
+-- no number of digits is above the most
+pub width_most : (n : ℕ) → width n ≤ number_size
+unfolding width
+width_most n = let t = tries 19 1 10 n in omega arith
+
+-- a number is as long as it has digits
+pub decimal_length : (n : ℕ) → length (decimal n) ≡ width n
+unfolding decimal
+decimal_length n = let l = spelled_length (width n) n [] in omega arith
+
 decimal_most : (n : ℕ) → length (decimal n) ≤ number_size
-unfolding decimal width
-decimal_most n = rw spelled_length (let t = tries 19 1 10 n in omega arith)
+decimal_most n = let l = decimal_length n in let w = width_most n in omega arith
 
 -- a line is no longer than the longest
 pub line_most : (place number : ℕ) → length (line place number) ≤ line_size
