@@ -71,11 +71,12 @@ impl Choices {
     // Goes back to the last choice that has a pick left and makes that; nothing where there is none.
     pub(crate) fn go_back(&mut self) -> Option<Choice> {
         for place in self.made.iter_mut().rev() {
-            if let Some(choice) = place {
-                if let Some(pick) = choice.other_pick() {
-                    choice.pick = pick;
-                    return Some(*choice);
-                }
+            let Some(choice) = place else {
+                continue;
+            };
+            if let Some(pick) = choice.other_pick() {
+                choice.pick = pick;
+                return Some(*choice);
             }
             *place = None;
         }
